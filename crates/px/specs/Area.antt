@@ -1,0 +1,42 @@
+-- rectangles of pixels
+use Rattle.std.specs.Prelude.{ℕ, ◌+◌, ◌<◌, ◌≤◌}
+
+-- the column and row of the first pixel, and how many columns and rows there are
+pub record Area : Type 0 where
+  pub x : ℕ
+  pub y : ℕ
+  pub w : ℕ
+  pub h : ℕ
+
+-- the sides that a region may have: it isn't empty, and ends within the longest side
+pub record Fits (x y w h : ℕ) : Type 0 where
+  pub wide : 0 < w
+  pub high : 0 < h
+  pub right : x + w ≤ 16384
+  pub bottom : y + h ≤ 16384
+
+abbrev pub IsArea : Area → Type 0
+IsArea a = Fits a.x a.y a.w a.h
+
+-- the pixel in column x and row y lies in the rectangle
+pub record HasPixel (a : Area) (x y : ℕ) : Type 0 where
+  pub left : a.x ≤ x
+  pub right : x < a.x + a.w
+  pub top : a.y ≤ y
+  pub bottom : y < a.y + a.h
+
+-- the inner rectangle lies in the outer one
+pub record Covers (outer inner : Area) : Type 0 where
+  pub left : outer.x ≤ inner.x
+  pub right : inner.x + inner.w ≤ outer.x + outer.w
+  pub top : outer.y ≤ inner.y
+  pub bottom : inner.y + inner.h ≤ outer.y + outer.h
+
+-- the rectangle lies in a picture of sides w and h
+pub record IsIn (a : Area) (w h : ℕ) : Type 0 where
+  pub across : a.x + a.w ≤ w
+  pub down : a.y + a.h ≤ h
+
+-- the whole of a picture of sides w and h
+abbrev pub whole_of : ℕ → ℕ → Area
+whole_of w h = record { x = 0; y = 0; w = w; h = h }

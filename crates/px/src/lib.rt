@@ -1,0 +1,36 @@
+//! Pictures, regions of pictures and the planes that hold them.
+//!
+//! A *picture* is a definition: a kind, two sides and a value for each column, row and channel. A
+//! *plane* is what the program holds: the values of one region of a picture, row by row. Every plane
+//! is made by one of the few builders here, so that loops, places and threads stand in one crate.
+#![tactic(auto)]
+
+mod depth;
+mod kind;
+mod number;
+mod painting;
+mod plane;
+mod region;
+mod row_painter;
+//mod repaint;
+
+
+
+
+pub use depth::Depth;
+pub use kind::{Cfa, Colour, PlaneKind};
+pub use number::{clamp_top, mul_floor};
+pub use painting::{paint, paint_in_turn};
+pub use plane::Plane;
+pub use region::Region;
+pub use row_painter::{ByPixel, ByValue, RowPainter};
+
+/// The greatest value of a sample. White stands at `WHITE`; what is above it is kept for later
+/// modules.
+pub const TOP: u32 = 1_048_575;
+
+/// The value of white: what a sample of the greatest brightness is read as, and written from.
+pub const WHITE: u32 = 65_535;
+
+/// The longest side of a picture, in pixels.
+pub const SIDE: u32 = 16_384;
