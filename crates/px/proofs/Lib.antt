@@ -1,3 +1,4 @@
 pub mod RowLemmas
 pub mod ChunkLemmas
 pub mod PaintedLemmas
+pub mod SampleLemmas

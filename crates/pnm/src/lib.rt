@@ -1,0 +1,16 @@
+//! Netpbm pictures: the bytes of a P6 read as a plane, and a plane written as the bytes of a P6.
+#![tactic(auto)]
+
+mod fault;
+mod header;
+mod reading;
+mod writing;
+
+
+
+
+
+
+pub use fault::{PnmEnd, PnmFault, PnmKind};
+
+
