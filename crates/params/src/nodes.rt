@@ -1,6 +1,9 @@
 ghost use Rattle.std.specs.Prelude.{◌≡◌, ℕ, List, IfOk};
+ghost use Rattle.std.specs.Cmp.{partial_equiv_from_equiv};
+ghost use Rattle.params.specs.Nodes.{same_nodes, same_nodes_equiv, nodes_input, nodes_input_alike};
 
 use std::alloc::{AllocError, Global};
+use std::hash::{Hash, Hasher};
 use std::marker::Model;
 
 /// The nodes of a tone curve: pairs of an input value and the output value there.
@@ -44,5 +47,29 @@ impl Nodes20 {
         Ok(Nodes20 {
             nodes: Vec::from_slice(alloc, self.nodes.as_slice())?,
         })
+    }
+}
+
+impl PartialEq for Nodes20 {
+    ghost eq = { same_nodes };
+
+    ghost laws = { partial_equiv_from_equiv same_nodes_equiv };
+
+    fn eq(&self, other: &Nodes20) -> bool {
+        self.nodes.as_slice() == other.nodes.as_slice()
+    }
+}
+
+impl Eq for Nodes20 {
+    ghost laws = { same_nodes_equiv };
+}
+
+impl Hash for Nodes20 {
+    ghost hash_input = { nodes_input };
+
+    ghost respects_eq = { nodes_input_alike };
+
+    fn hash<H: Hasher>(&self, state: &mut H) {
+        self.nodes.hash(state);
     }
 }

@@ -51,13 +51,13 @@ pub struct ChannelMixer {
 }
 
 /// A curve through 2 to 20 nodes, each number 0 to 1,048,575, whose first numbers rise.
-#[derive(Debug, Drop)]
+#[derive(Debug, PartialEq, Eq, Hash, Drop)]
 pub struct ToneCurve {
     pub nodes: Nodes20,
 }
 
 /// The settings of one module. Demosaic has none.
-#[derive(Debug, Drop)]
+#[derive(Debug, PartialEq, Eq, Hash, Drop)]
 pub enum Params {
     RawPrepare(RawPrepare),
     Temperature(Temperature),
