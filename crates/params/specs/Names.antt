@@ -1,14 +1,12 @@
 -- The names that scripts give modules, modes and fields.
-use Rattle.std.specs.Prelude.{ℕ, List, [], ◌∷◌, Option, Some, None, codes, bytes_eq, if◌then◌else◌}
+use Rattle.std.specs.Prelude.{ℕ, List, [], ◌∷◌, Option, codes}
+use Rattle.params.specs.Form.{named}
+use Rattle.params.specs.declared.blending.Mode.{Mode}
+use Rattle.params.specs.declared.blending.Mode.TheVariants as modes
 use Rattle.params.specs.declared.modules.Module.{Module}
 use Rattle.params.specs.declared.modules.Module.TheVariants as modules
 use Rattle.params.specs.declared.fault.Field.{Field}
 use Rattle.params.specs.declared.fault.Field.TheVariants as fields
-
--- what stands beside a text in a table of words
-abbrev pub among : {A : Type 0} → List (List ℕ × A) → List ℕ → Option A
-among [] text = None
-among (w ∷ ws) text = if bytes_eq text w.0 then Some w.1 else among ws text
 
 abbrev pub name_of_module : Module → List ℕ
 name_of_module modules.RawPrepare = codes "rawprepare"
@@ -24,13 +22,25 @@ name_of_module modules.ToneCurve = codes "tonecurve"
 abbrev pub all_modules : List Module
 all_modules = modules.RawPrepare ∷ modules.Temperature ∷ modules.Demosaic ∷ modules.Orientation ∷ modules.Crop ∷ modules.Exposure ∷ modules.ChannelMixer ∷ modules.ToneCurve ∷ []
 
--- the first of the modules that has this name
-abbrev pub named_in : List Module → List ℕ → Option Module
-named_in [] text = None
-named_in (m ∷ ms) text = if bytes_eq text (name_of_module m) then Some m else named_in ms text
-
 abbrev pub module_named : List ℕ → Option Module
-module_named text = named_in all_modules text
+module_named text = named name_of_module all_modules text
+
+abbrev pub name_of_mode : Mode → List ℕ
+name_of_mode modes.Normal = codes "normal"
+name_of_mode modes.Multiply = codes "multiply"
+name_of_mode modes.Screen = codes "screen"
+name_of_mode modes.Lighten = codes "lighten"
+name_of_mode modes.Darken = codes "darken"
+name_of_mode modes.Add = codes "add"
+name_of_mode modes.Subtract = codes "subtract"
+name_of_mode modes.Difference = codes "difference"
+name_of_mode modes.Average = codes "average"
+
+abbrev pub all_modes : List Mode
+all_modes = modes.Normal ∷ modes.Multiply ∷ modes.Screen ∷ modes.Lighten ∷ modes.Darken ∷ modes.Add ∷ modes.Subtract ∷ modes.Difference ∷ modes.Average ∷ []
+
+abbrev pub mode_named : List ℕ → Option Mode
+mode_named text = named name_of_mode all_modes text
 
 -- a module's place among the modules
 abbrev pub number_of : Module → ℕ

@@ -1,3 +1,6 @@
+ghost use Rattle.std.specs.Prelude.{◌≡◌, Some};
+ghost use Rattle.params.specs.Names.{name_of_mode, mode_named};
+
 /// How a module's output is laid over its input.
 #[derive(Clone, Copy, Debug, PartialEq, Eq, Hash)]
 pub enum Mode {
@@ -10,6 +13,44 @@ pub enum Mode {
     Subtract,
     Difference,
     Average,
+}
+
+impl Mode {
+    /// The name that scripts give the mode.
+    pub fn name(self) -> &'static str
+        ensures value { result.now ≡ name_of_mode self }
+        ensures found { mode_named result.now ≡ Some self }
+    {
+        match self {
+            Mode::Normal => "normal",
+            Mode::Multiply => "multiply",
+            Mode::Screen => "screen",
+            Mode::Lighten => "lighten",
+            Mode::Darken => "darken",
+            Mode::Add => "add",
+            Mode::Subtract => "subtract",
+            Mode::Difference => "difference",
+            Mode::Average => "average",
+        }
+    }
+}
+
+/// The mode of that name, if there is one.
+pub fn mode_named(name: &str) -> Option<Mode>
+    ensures value { result ≡ mode_named name.now }
+{
+    match name {
+        "normal" => Some(Mode::Normal),
+        "multiply" => Some(Mode::Multiply),
+        "screen" => Some(Mode::Screen),
+        "lighten" => Some(Mode::Lighten),
+        "darken" => Some(Mode::Darken),
+        "add" => Some(Mode::Add),
+        "subtract" => Some(Mode::Subtract),
+        "difference" => Some(Mode::Difference),
+        "average" => Some(Mode::Average),
+        _ => None,
+    }
 }
 
 /// A drawn mask. Places are in 1/65,536 of the source's sides, 0 to 65,536; directions are -1,024 to

@@ -6,6 +6,7 @@ mod blending;
 mod checks;
 mod curve;
 mod fault;
+pub mod form;
 mod modules;
 mod nodes;
 mod ranges;
@@ -14,7 +15,7 @@ mod settings;
 mod stated;
 mod widen;
 
-pub use blending::{Blend, Mode, Shape};
+pub use blending::{Blend, Mode, Shape, mode_named};
 pub use checks::{check, check_blend};
 pub use fault::{Field, ParamFault};
 pub use modules::{Module, module_named};
