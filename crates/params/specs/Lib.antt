@@ -3,3 +3,4 @@ pub mod Rules
 pub mod Ranges
 pub mod Nodes
 pub mod Form
+pub mod Stated

@@ -7,6 +7,7 @@ mod checks;
 mod curve;
 mod fault;
 pub mod form;
+mod forms;
 mod modules;
 mod nodes;
 mod ranges;
