@@ -1,0 +1,6 @@
+pub mod Names
+pub mod Rules
+pub mod Ranges
+pub mod Nodes
+pub mod Form
+pub mod Stated
