@@ -6,8 +6,8 @@ use Rattle.px.specs.declared.kind.PlaneKind.{PlaneKind}
 use Rattle.px.specs.declared.kind.PlaneKind.TheVariants.{Mosaic, Rgb}
 use Rattle.px.specs.Area.{Area, HasPixel}
 use Rattle.px.specs.Kind.{channels}
-use Rattle.px.specs.Cut.{Cut, IsCutOf, value_at}
-use Rattle.px.specs.Picture.{Picture, pixel_by, pixel_of}
+use Rattle.px.specs.Cut.{Cut, IsCutOf, value_at, rgb_at}
+use Rattle.px.specs.Picture.{Picture, pixel_by, pixel_of, rgb_of}
 use Rattle.px.specs.Painted.{IsGiven, AreRows, IsPainted}
 
 -- the value of one channel among those of a pixel
@@ -59,3 +59,18 @@ cut_of_painted kind m w h a post p painted kind_is wide high same = record {
     let pixel = painted.pixels x y here in
     sym (pixel.same c size) ∙ (ap (λ r. slice_index r c) (same x y pixel.answer here pixel.given) ∙ channel_of_pixel m.kind (m.at x y) c below)
 }
+
+-- the pixel of a plane is that of each picture that it is a cut of
+pub pixel_of_part : (p : Cut) (q : Picture) (x y : ℕ) → IsCutOf q p → q.kind ≡ Rgb → HasPixel p.area x y → rgb_at p x y ≡ rgb_of q x y
+pixel_of_part p q x y part rgb inside =
+    let size : 3 ≡ channels q.kind = sym (ap channels rgb) in
+    let at : (c : ℕ) → c < 3 → value_at p x y c ≡ q.at x y c = λ c below. part.same x y c inside (rw (← size) below) in
+    rw (at 0 (omega arith), at 1 (omega arith), at 2 (omega arith)) refl
+
+-- the same for an RGB picture, by red, green and blue
+pub cut_of_rgb : (m : Picture) (w h : ℕ) (a : Area) (post : ℕ → ℕ → List ℕ → Type 0) (p : Cut)
+    → IsPainted Rgb w h a post p → m.kind ≡ Rgb → m.w ≡ w → m.h ≡ h
+    → ((x y : ℕ) (r : List ℕ) → HasPixel a x y → post x y r → r ≡ rgb_of m x y)
+    → IsCutOf m p
+cut_of_rgb m w h a post p painted rgb wide high same =
+    cut_of_painted Rgb m w h a post p painted rgb wide high (λ x y r inside given. same x y r inside given ∙ rw rgb refl)

@@ -1,9 +1,9 @@
 -- cuts of pictures: what a plane is seen as
-use Rattle.std.specs.Prelude.{◌≡◌, ℕ, ◌+◌, ◌-◌, ◌*◌, ◌<◌, ◌≤◌, List, length, slice_index}
+use Rattle.std.specs.Prelude.{◌≡◌, ℕ, ◌+◌, ◌-◌, ◌*◌, ◌<◌, ◌≤◌, List, [], ◌∷◌, length, slice_index}
 use Rattle.px.specs.declared.kind.PlaneKind.{PlaneKind}
 use Rattle.px.specs.Area.{Area, IsArea, IsIn, HasPixel, whole_of}
 use Rattle.px.specs.Kind.{channels}
-use Rattle.px.specs.Picture.{Picture, pixel_by}
+use Rattle.px.specs.Picture.{Picture}
 
 -- a picture's kind and sides, a region of it, and the values of that region, row by row
 pub record Cut : Type 0 where
@@ -21,9 +21,9 @@ place p x y = ((y - p.area.y) * p.area.w + (x - p.area.x)) * channels p.kind
 abbrev pub value_at : Cut → ℕ → ℕ → ℕ → ℕ
 value_at p x y c = slice_index p.values (place p x y + c)
 
--- the values of one pixel
-abbrev pub pixel_at : Cut → ℕ → ℕ → List ℕ
-pixel_at p x y = pixel_by p.kind (value_at p x y)
+-- red, green and blue of one pixel
+abbrev pub rgb_at : Cut → ℕ → ℕ → List ℕ
+rgb_at p x y = value_at p x y 0 ∷ value_at p x y 1 ∷ value_at p x y 2 ∷ []
 
 -- what holds of each plane. `top` speaks of each place, also past the last value, where 0 is read
 pub record IsPlane (p : Cut) : Type 0 where

@@ -19,6 +19,10 @@ pixel_by Rgb f = f 0 ∷ f 1 ∷ f 2 ∷ []
 abbrev pub pixel_of : Picture → ℕ → ℕ → List ℕ
 pixel_of q x y = pixel_by q.kind (q.at x y)
 
+-- red, green and blue of one pixel
+abbrev pub rgb_of : Picture → ℕ → ℕ → List ℕ
+rgb_of q x y = q.at x y 0 ∷ q.at x y 1 ∷ q.at x y 2 ∷ []
+
 -- all values of an RGB picture, row by row, the three channels of a pixel side by side
 abbrev pub samples_of : Picture → List ℕ
 samples_of q = map (λ i. q.at (i / 3 % q.w) (i / 3 / q.w) (i % 3)) (range_with_len 0 (q.h * q.w * 3))

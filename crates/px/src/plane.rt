@@ -1,7 +1,7 @@
 ghost use Rattle.std.specs.Prelude.{◌≡◌, ℕ, ◌+◌, ◌<◌, ◌≤◌, List, [], ◌∷◌, length, slice_index};
 ghost use Rattle.px.specs.declared.kind.PlaneKind.TheVariants.{Mosaic, Rgb};
 ghost use Rattle.px.specs.Area.{IsIn, HasPixel};
-ghost use Rattle.px.specs.Cut.{Cut, IsPlane, place, value_at};
+ghost use Rattle.px.specs.Cut.{Cut, IsPlane, place, rgb_at, value_at};
 ghost use Rattle.px.specs.Kind.{channels};
 
 use crate::{PlaneKind, Region};
@@ -94,7 +94,7 @@ impl Plane {
     pub fn rgb(&self, x: u32, y: u32) -> [u32; 3]
         requires rgb { self.now.kind ≡ Rgb }
         requires pixel { HasPixel self.now.area x y }
-        ensures pixel { result ≡ value_at self.now x y 0 ∷ value_at self.now x y 1 ∷ value_at self.now x y 2 ∷ [] }
+        ensures pixel { result ≡ rgb_at self.now x y }
         ensures top { (i : ℕ) → slice_index result i ≤ 1048575 }
     {
         let at = self.place(x, y, 3);

@@ -25,6 +25,7 @@ pub trait RowPainter {
 }
 
 /// Paints by a closure that gives red, green and blue of a pixel.
+#[derive(Drop)]
 pub struct ByPixel<F> {
     pub pixel: F,
 }
@@ -48,6 +49,7 @@ impl<F: Fn(u32, u32) -> [u32; 3]> RowPainter for ByPixel<F> {
 }
 
 /// Paints by a closure that gives the one value of a mosaic's pixel.
+#[derive(Drop)]
 pub struct ByValue<F> {
     pub value: F,
 }
