@@ -1,0 +1,15 @@
+//! The commands of the program: from its words to a status, over a shelf of files and an output.
+#![tactic(auto)]
+
+mod command;
+mod develop;
+mod devices;
+mod run_words;
+mod status;
+
+#[cfg(test)]
+mod tests;
+
+pub use develop::develop_once;
+pub use run_words::run_words;
+pub use status::{Input, Status};

@@ -1,0 +1,64 @@
+ghost use Rattle.std.specs.Prelude.{◌≡◌, IfOk, string_bytes};
+ghost use Rattle.develop_session.specs.Texts.{code_of, refusal_text};
+
+use outside::Name;
+use std::alloc::{AllocError, Global};
+
+/// An input file of a command.
+#[derive(Clone, Copy, Debug, PartialEq, Eq)]
+pub enum Input {
+    Script,
+    Source,
+}
+
+/// How a command ended.
+#[derive(Debug, Drop, PartialEq, Eq)]
+pub enum Status {
+    Ok,
+    /// The words are no command.
+    Usage,
+    /// A fault of the shelf at this name.
+    ShelfFault { name: Name },
+    /// A fault of the output, on a run that else was `Ok`.
+    SaidFault,
+    OutOfMemory,
+    /// The file hasn't the form that is built so far.
+    NotYet { what: Input },
+}
+
+impl Status {
+    /// The number with which the program exits.
+    pub fn code(&self) -> u8
+        ensures { result ≡ code_of self.now }
+    {
+        match self {
+            Status::Ok => 0,
+            Status::Usage => 1,
+            Status::ShelfFault { .. } => 5,
+            Status::SaidFault => 6,
+            Status::OutOfMemory => 7,
+            Status::NotYet { .. } => 8,
+        }
+    }
+}
+
+// The line that is said of a refusal.
+pub(crate) fn refusal_line(alloc: Global, status: &Status) -> Result<String, AllocError>
+    ensures { IfOk result (λ t. string_bytes t ≡ refusal_text status.now) }
+{
+    match status {
+        Status::Usage => String::from_str(
+            alloc,
+            "usage: devcore develop SCRIPT SOURCE OUT, stepped SCRIPT SOURCE EVENTS, session SCRIPT SOURCE, generate N\n",
+        ),
+        Status::ShelfFault { name } => format!(in alloc; "shelf fault: {name}\n"),
+        Status::OutOfMemory => String::from_str(alloc, "out of memory\n"),
+        Status::NotYet {
+            what: Input::Script,
+        } => String::from_str(alloc, "not yet: script\n"),
+        Status::NotYet {
+            what: Input::Source,
+        } => String::from_str(alloc, "not yet: source\n"),
+        Status::Ok | Status::SaidFault => String::from_str(alloc, ""),
+    }
+}
