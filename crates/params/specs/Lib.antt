@@ -4,3 +4,4 @@ pub mod Ranges
 pub mod Nodes
 pub mod Form
 pub mod Stated
+pub mod Read
