@@ -1,0 +1,24 @@
+//! The outside of the program: a shelf of named files, and an output that is told texts.
+//!
+//! Both are traits whose calls may fail. A failed call shows its cause by a count of faults that
+//! rose. `MemoryShelf` and `MemorySaid` are told what they hold, and fail at chosen calls;
+//! `HostShelf` and `HostSaid` are real files and a real output.
+#![tactic(auto)]
+
+mod failed;
+mod front;
+mod host_said;
+mod host_shelf;
+mod job_name;
+mod name;
+mod said;
+mod shelf;
+
+pub use failed::Failed;
+pub use front::read_front;
+pub use host_said::HostSaid;
+pub use host_shelf::HostShelf;
+pub use job_name::{JobName, Pipe};
+pub use name::Name;
+pub use said::Said;
+pub use shelf::Shelf;
