@@ -1,2 +1,3 @@
 pub mod Told
 pub mod FrontLemmas
+pub mod KeptFiles

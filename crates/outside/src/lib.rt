@@ -5,11 +5,14 @@
 //! `HostShelf` and `HostSaid` are real files and a real output.
 #![tactic(auto)]
 
+mod calls;
 mod failed;
 mod front;
 mod host_said;
 mod host_shelf;
 mod job_name;
+mod memory_said;
+mod memory_shelf;
 mod name;
 mod said;
 mod shelf;
@@ -19,6 +22,8 @@ pub use front::read_front;
 pub use host_said::HostSaid;
 pub use host_shelf::HostShelf;
 pub use job_name::{JobName, Pipe};
+pub use memory_said::MemorySaid;
+pub use memory_shelf::MemoryShelf;
 pub use name::Name;
 pub use said::Said;
 pub use shelf::Shelf;
