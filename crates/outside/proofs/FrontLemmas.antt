@@ -1,6 +1,5 @@
 -- A file that is read in turns: one turn, and what has come when no turn is left.
 use Rattle.std.proofs.Common.{◌≡◌, ℕ, ◌+◌, ◌<◌, ◌≤◌, List, [], ◌∷◌, ◌++◌, length, take, drop, Option, Some, refl, sym, ap, ◌∙◌, arith}
-use Rattle.std.specs.Option.{option_map}
 use Rattle.std.proofs.lemmas.List.{take_all, length-take, length-drop, take_min}
 use Rattle.std.proofs.lemmas.Option.{same_Some}
 use Rattle.std.proofs.Math.Seq.{take-add, take-append_seam}
@@ -43,17 +42,3 @@ pub longer_is_front : (file : Option (List ℕ)) (front longer : List ℕ) (n : 
 longer_is_front file front longer n f l = record {
   begins = λ _. (l.content, l.stands, front_of l.content (length front + n) longer (longer_taken file front longer n f l));
 }
-
--- a turn gave no byte: all of the file has come
-pub all_came : (file : Option (List ℕ)) (front longer : List ℕ) (n limit : ℕ) → IsFront file front → IsLonger file front n longer → n ≡ 0 → length longer ≤ limit
-    → option_map (take limit) file ≡ Some longer
-all_came file front longer n limit f l none fits =
-    let at_end : length l.content ≤ length front = l.ends none in
-    let same : longer ≡ l.content = longer_taken file front longer n f l ∙ take_all (length front + n) l.content (omega arith) in
-    ap (option_map (take limit)) l.stands ∙ ap Some (take_all limit l.content (omega (arith, ap length same)) ∙ sym same)
-
--- as many bytes came as are looked at
-pub limit_came : (file : Option (List ℕ)) (front : List ℕ) (limit : ℕ) → IsFront file front → 0 < limit → limit ≡ length front → option_map (take limit) file ≡ Some front
-limit_came file front limit f some full =
-    let b = f.begins (omega arith) in
-    ap (option_map (take limit)) b.1 ∙ ap Some (ap (λ k. take k b.0) full ∙ b.2)

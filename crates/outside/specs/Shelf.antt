@@ -1,5 +1,5 @@
 -- What a shelf holds: bytes under names. What a read gives of it, and what a put leaves.
-use Rattle.std.specs.Prelude.{◌≡◌, ◌⊎◌, ℕ, ◌<◌, ◌≤◌, List, length, take, drop, Option, Some}
+use Rattle.std.specs.Prelude.{◌≡◌, ◌⊎◌, ℕ, ◌<◌, ◌≤◌, List, [], ◌∷◌, length, take, drop, Option, Some}
 use Rattle.std.specs.Option.{option_map}
 use Rattle.std.specs.Cmp.Lexicographic.{slice_cmp}
 use Rattle.std.specs.Ordering.{nat_cmp}
@@ -36,3 +36,8 @@ Puts name bytes old new = new ≡ option_map (with_file name bytes) old
 -- nothing changed, or a prefix of the new bytes stands under the name and nothing else changed
 abbrev pub PutsInPart : List ℕ → List ℕ → Option Files → Option Files → Type 0
 PutsInPart name bytes old new = (new ≡ old) ⊎ ((k : ℕ) × Puts name (take k bytes) old new)
+
+-- the files after these puts, one after the other
+abbrev pub with_files : List (List ℕ × List ℕ) → Files → Files
+with_files [] fs = fs
+with_files (p ∷ ps) fs = with_files ps (with_file p.0 p.1 fs)

@@ -11,13 +11,14 @@ use std::alloc::Global;
 /// How many bytes the first turn of a reading asks for.
 const FIRST: usize = 16_384;
 
-/// How many bytes a turn asks for at most.
-const MOST: usize = 1_048_576;
+/// How many bytes a turn asks for at most, so that they stay in a processor's cache between the
+/// zeros and the read.
+const MOST: usize = 262_144;
 
 /// The front of a file, as far as `limit`: the whole file, where it has at most that many bytes.
 ///
 /// The file is read in turns of at least one byte, straight into the answer. A turn asks for
-/// 16,384 bytes at first and for up to 1,048,576 later, so the memory taken is what was read and a
+/// 16,384 bytes at first and for up to 262,144 later, so the memory taken is what was read and a
 /// turn more.
 pub fn read_front<S: Shelf>(
     alloc: Global,

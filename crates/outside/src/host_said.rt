@@ -1,6 +1,7 @@
 ghost use Rattle.std.specs.Prelude.{◌≡◌, ℕ, ◌≤◌, List, OnOk, IsErrOf, Option, None};
 ghost use Rattle.outside.specs.Faults.{Rose};
 ghost use Rattle.outside.specs.Said.{Says, SaysInPart};
+ghost use Rattle.outside.specs.Faults.{counted};
 
 use crate::failed::Failed;
 use crate::said::Said;
@@ -39,7 +40,16 @@ impl<W: Write + Drop> Said for HostSaid<W> {
 
     ghost faults = { λ s. s };
 
-    fn say(&mut self, bytes: &[u8]) -> Result<(), Failed> {
+    fn say(&mut self, bytes: &[u8]) -> Result<(), Failed>
+        ensures ok { OnOk result (Says bytes.now None None) }
+        ensures fault { IsErrOf result Failed.Fault → SaysInPart bytes.now None None }
+        ensures memory { IsErrOf result Failed.Memory → ◌≡◌ {A = Option (List ℕ)} None None }
+
+        ensures cause { IsErrOf result Failed.Fault → Rose self.old self.new }
+        ensures never_falls { self.old ≤ self.new }
+
+        ensures count { self.new ≡ counted result self.old }
+    {
         match write_out(&mut self.output, bytes) {
             Ok(()) => Ok(()),
             Err(_) => {

@@ -1,7 +1,7 @@
 ghost use Rattle.std.specs.Prelude.{◌≡◌, ℕ, ◌≤◌, List, length, IfOk, IfSome, OnOk, IsErrOf, Option, None};
 ghost use Rattle.outside.specs.Faults.{Rose, NoneFalls};
 ghost use Rattle.outside.specs.Shelf.{Files, held, ReadsAt, Puts, PutsInPart};
-ghost use Rattle.outside.specs.HostShelf.{HostFaults, counted};
+ghost use Rattle.outside.specs.Faults.{counted};
 
 use crate::failed::Failed;
 use crate::shelf::Shelf;
@@ -51,7 +51,17 @@ impl<'r, R: Files> Shelf for HostShelf<'r, R> {
 
     ghost put_faults = { λ s _. s.puts };
 
-    fn read_at(&mut self, name: &str, at: u64, buf: &mut [u8]) -> Result<usize, Failed> {
+    fn read_at(&mut self, name: &str, at: u64, buf: &mut [u8]) -> Result<usize, Failed>
+        ensures fits { IfOk result (λ n. n ≤ length buf.new) }
+        ensures bytes { IfOk result (λ n. IfSome None (λ fs. ReadsAt (held fs name.now) at n buf.new)) }
+        ensures unchanged { ◌≡◌ {A = Option Files} None None }
+
+        ensures cause { IsErrOf result Failed.Fault → Rose self.old.reads self.new.reads }
+        ensures reads { NoneFalls (λ _. self.old.reads) (λ _. self.new.reads) }
+        ensures puts { NoneFalls (λ _. self.old.puts) (λ _. self.new.puts) }
+
+        ensures count { self.new ≡ record self.old { reads = counted result self.old.reads } }
+    {
         match read_file(self.rt, name, at, buf) {
             Ok(count) => Ok(count),
             Err(_) => {
@@ -61,7 +71,17 @@ impl<'r, R: Files> Shelf for HostShelf<'r, R> {
         }
     }
 
-    fn put(&mut self, name: &str, bytes: &[u8]) -> Result<(), Failed> {
+    fn put(&mut self, name: &str, bytes: &[u8]) -> Result<(), Failed>
+        ensures ok { OnOk result (Puts name.now bytes.now None None) }
+        ensures fault { IsErrOf result Failed.Fault → PutsInPart name.now bytes.now None None }
+        ensures memory { IsErrOf result Failed.Memory → ◌≡◌ {A = Option Files} None None }
+
+        ensures cause { IsErrOf result Failed.Fault → Rose self.old.puts self.new.puts }
+        ensures reads { NoneFalls (λ _. self.old.reads) (λ _. self.new.reads) }
+        ensures puts { NoneFalls (λ _. self.old.puts) (λ _. self.new.puts) }
+
+        ensures count { self.new ≡ record self.old { puts = counted result self.old.puts } }
+    {
         match write_file(self.rt, name, bytes) {
             Ok(()) => Ok(()),
             Err(_) => {

@@ -16,6 +16,8 @@ mod memory_shelf;
 mod name;
 mod said;
 mod shelf;
+#[cfg(test)]
+mod tests;
 
 pub use failed::Failed;
 pub use front::read_front;
