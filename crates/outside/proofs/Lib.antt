@@ -1,0 +1,5 @@
+pub mod Told
+pub mod FaultLaws
+pub mod ShelfLaws
+pub mod FrontLemmas
+pub mod KeptFiles
