@@ -1,7 +1,7 @@
 -- each answer of a command with its cause, and what stands and was said afterwards
 use Rattle.std.specs.Prelude.{◌≡◌, ◌⊎◌, ℕ, List, Option, Some, None, IfSome}
 use Rattle.params.specs.declared.settings.Exposure.{Exposure}
-use Rattle.outside.specs.Shelf.{Files}
+use Rattle.outside.specs.Shelf.{Files, PutsInPart}
 use Rattle.outside.specs.Said.{Says, SaysInPart}
 use Rattle.develop_session.specs.declared.status.Input.TheVariants as input
 use Rattle.develop_session.specs.declared.status.Status.{Status}
@@ -23,6 +23,16 @@ FailsAt name rose status.Ok = ⊥
 FailsAt name rose status.Usage = ⊥
 FailsAt name rose status.SaidFault = ⊥
 FailsAt name rose (status.NotYet what) = ⊥
+
+-- A put failed: want of memory changed nothing, and a fault of this name, whose count rose, left the old state or a prefix
+-- of the bytes.
+abbrev pub PutFailsAt : List ℕ → List ℕ → Type 0 → Option Files → Option Files → Status → Type 0
+PutFailsAt name bytes rose old new status.OutOfMemory = new ≡ old
+PutFailsAt name bytes rose old new (status.ShelfFault at) = (at ≡ name) × rose × PutsInPart name bytes old new
+PutFailsAt name bytes rose old new status.Ok = ⊥
+PutFailsAt name bytes rose old new status.Usage = ⊥
+PutFailsAt name bytes rose old new status.SaidFault = ⊥
+PutFailsAt name bytes rose old new (status.NotYet what) = ⊥
 
 -- some script stands there
 abbrev pub HasSomeScript : List ℕ → Files → Type 0

@@ -4,7 +4,7 @@ ghost use Rattle.std.specs.Option.{option_map};
 ghost use Rattle.outside.specs.Faults.{Rose, NoneFalls};
 ghost use Rattle.outside.specs.Shelf.{held, Puts, PutsInPart};
 ghost use Rattle.outside.specs.Said.{Says, SaysInPart};
-ghost use Rattle.develop_session.specs.Answers.{FailsAt, Tells};
+ghost use Rattle.develop_session.specs.Answers.{FailsAt, PutFailsAt, Tells};
 ghost use Rattle.develop_session.specs.Texts.{refusal_text};
 
 use crate::status::{Status, refusal_line};
@@ -39,16 +39,20 @@ pub(crate) fn read_file<S: Shelf>(alloc: Global, shelf: &mut S, name: &str, limi
     }
 }
 
-// Puts the bytes of a file.
+// Puts the bytes of a file. The name of a fault is made first, so that want of memory changes nothing.
 pub(crate) fn put_file<S: Shelf>(alloc: Global, shelf: &mut S, name: &str, bytes: &[u8]) -> Result<(), Status>
     ensures ok { OnOk result (Puts name.now bytes.now (S.files shelf.old) (S.files shelf.new)) }
     ensures cause { IfErr result (PutFailsAt name.now bytes.now (Rose (S.put_faults shelf.old name.now) (S.put_faults shelf.new name.now)) (S.files shelf.old) (S.files shelf.new)) }
     ensures reads { NoneFalls (S.read_faults shelf.old) (S.read_faults shelf.new) }
     ensures puts { NoneFalls (S.put_faults shelf.old) (S.put_faults shelf.new) }
 {
+    let Ok(at) = Name::of(alloc, name) else {
+        return Err(Status::OutOfMemory);
+    };
     match shelf.put(name, bytes) {
         Ok(()) => Ok(()),
-        Err(failed) => Err(failed_at(alloc, failed, name)),
+        Err(Failed::Fault) => Err(Status::ShelfFault { name: at }),
+        Err(Failed::Memory) => Err(Status::OutOfMemory),
     }
 }
 

@@ -1,5 +1,5 @@
 -- the first form of a script: an object whose one key is `steps`, a list of steps that set the exposure
-use Rattle.std.specs.Prelude.{ℕ, suc, List, [], ◌∷◌, length, Bool, Option, Some, None, option_map, option_and_then, unwrap_or, codes, bytes_eq, nat_le, ◌&&◌, if◌then◌else◌}
+use Rattle.std.specs.Prelude.{ℕ, suc, List, [], ◌∷◌, length, Bool, Option, Some, None, option_map, option_and_then, unwrap_or, false, codes, bytes_eq, nat_le, ◌&&◌, if◌then◌else◌}
 use Rattle.std.specs.Str.{is_utf8}
 use Rattle.std.specs.Result.{result_ok}
 use Rattle.serde_json.specs.Data.{Data, Items, no_items, item}

@@ -4,7 +4,8 @@ ghost use Rattle.serde_json.specs.View.{view, items_view};
 ghost use Rattle.params.specs.declared.settings.Exposure.{Exposure};
 ghost use Rattle.edit_script.specs.Reads.{text_of, says, exposure_of, step_of, steps_of, few_steps_of, form_of, script_of};
 ghost use Rattle.edit_script.specs.Read.{Reads};
-ghost use Rattle.edit_script.specs.Steps.{AreSteps};
+ghost use Rattle.std.specs.List.{AllByRecursion};
+ghost use Rattle.edit_script.specs.Steps.{AreSteps, IsExposure};
 
 use crate::fault::{Reason, ScriptEnd, ScriptFault};
 use crate::script::Script;
@@ -54,6 +55,7 @@ fn says(value: &Value, key: &str, word: &str) -> bool
 
 fn exposure_of(alloc: Global, value: &Value) -> Result<Exposure, ScriptEnd>
     ensures read { Reads (λ s. s) result (exposure_of (view value.now)) }
+    ensures within { IfOk result IsExposure }
 {
     match of_json(alloc, Module::Exposure, value) {
         Ok(Params::Exposure(exposure)) => Ok(exposure),
@@ -65,6 +67,7 @@ fn exposure_of(alloc: Global, value: &Value) -> Result<Exposure, ScriptEnd>
 #[tactic(auto, unfolding(crate::specs::Reads::step_of))]
 fn step_of(alloc: Global, value: &Value) -> Result<Exposure, ScriptEnd>
     ensures read { Reads (λ s. s) result (step_of (view value.now)) }
+    ensures within { IfOk result IsExposure }
 {
     if !has_only(value, &["do", "module", "params"])
         || !says(value, "do", "set")
@@ -81,12 +84,24 @@ fn step_of(alloc: Global, value: &Value) -> Result<Exposure, ScriptEnd>
 fn steps_of(alloc: Global, values: &[Value]) -> Result<Vec<Exposure>, ScriptEnd>
     ensures read { Reads (λ v. v.items) result (steps_of (items_view values.now)) }
     ensures len { IfOk result (λ v. length v.items ≡ length values.now) }
+    ensures within { IfOk result (λ v. AllByRecursion IsExposure v.items) }
 {
     let mut steps = Vec::with_capacity(alloc, values.len())?;
     for value in values {
         steps.push(step_of(alloc, value)?)?;
     }
     Ok(steps)
+}
+
+#[tactic(auto, using(crate::proofs::StepLemmas::count_of_items))]
+fn few_steps_of(alloc: Global, values: &[Value]) -> Result<Vec<Exposure>, ScriptEnd>
+    ensures read { Reads (λ v. v.items) result (few_steps_of (items_view values.now)) }
+    ensures steps { IfOk result (λ v. AreSteps v.items) }
+{
+    if values.len() > MOST_STEPS {
+        return Err(refused());
+    }
+    steps_of(alloc, values)
 }
 
 #[tactic(auto, unfolding(crate::specs::Reads::form_of))]
@@ -98,13 +113,20 @@ fn form_of(alloc: Global, value: &Value) -> Result<Vec<Exposure>, ScriptEnd>
         return Err(refused());
     }
     match items_at(value, "steps") {
-        Some(values) => if values.len() <= MOST_STEPS {
-            steps_of(alloc, values)
-        } else {
-            Err(refused())
-        },
+        Some(values) => few_steps_of(alloc, values),
         None => Err(refused()),
     }
+}
+
+fn script_of(alloc: Global, bytes: &[u8]) -> Result<Script, ScriptEnd>
+    ensures { Reads (λ s. s) result (script_of bytes.now) }
+{
+    if bytes.len() > LONGEST {
+        return Err(refused());
+    }
+    let value = text_of(alloc, bytes)?;
+    let steps = form_of(alloc, &value)?;
+    Ok(Script::of(steps))
 }
 
 /// Reads a script: a JSON object whose one key is `steps`, a list of at most 256 objects with exactly
@@ -118,10 +140,5 @@ pub fn read(alloc: Global, bytes: &[u8]) -> Result<Script, ScriptEnd>
     ensures read { Reads (λ s. s) result (script_of bytes.now) }
     ensures front { (text : List ℕ) → take 4194305 text ≡ bytes.now → Reads (λ s. s) result (script_of text) }
 {
-    if bytes.len() > LONGEST {
-        return Err(refused());
-    }
-    let value = text_of(alloc, bytes)?;
-    let steps = form_of(alloc, &value)?;
-    Ok(Script::of(steps))
+    script_of(alloc, bytes)
 }
