@@ -2,6 +2,7 @@
 use Rattle.std.specs.Prelude.{◌≡◌, ◌⊎◌, ℕ, List, Option, Some, None, IfSome}
 use Rattle.params.specs.declared.settings.Exposure.{Exposure}
 use Rattle.outside.specs.Shelf.{Files, PutsInPart}
+use Rattle.outside.specs.Faults.{Rose}
 use Rattle.outside.specs.Said.{Says, SaysInPart}
 use Rattle.develop_session.specs.declared.status.Input.TheVariants as input
 use Rattle.develop_session.specs.declared.status.Status.{Status}
@@ -63,6 +64,10 @@ abbrev pub PutFails : Command → Option Files → Option Files → Type 0
 PutFails c None new = new ≡ None
 PutFails c (Some fs) new = IsPutInPart c fs new
 
+-- the count of a name rose
+abbrev pub RoseAt : (List ℕ → ℕ) → (List ℕ → ℕ) → List ℕ → Type 0
+RoseAt before now name = Rose (before name) (now name)
+
 -- The run was refused. The two predicates say of a name that its count of faults rose in this call.
 abbrev pub Refuses : Command → Option Files → Option Files → (List ℕ → Type 0) → (List ℕ → Type 0) → Status → Type 0
 Refuses c old new read_rose put_rose status.OutOfMemory = new ≡ old
@@ -80,6 +85,15 @@ Refuses c old new read_rose put_rose status.SaidFault = ⊥
 -- nothing.
 abbrev pub Tells : List ℕ → Type 0 → Option (List ℕ) → Option (List ℕ) → Type 0
 Tells line rose old new = Says line old new ⊎ ((rose × SaysInPart line old new) ⊎ (new ≡ old))
+
+-- what comes of saying the line of a developed picture
+abbrev pub SaysDeveloped : ℕ → ℕ → Type 0 → Option (List ℕ) → Option (List ℕ) → Status → Type 0
+SaysDeveloped w h rose was is status.Ok = Says (developed_text w h) was is
+SaysDeveloped w h rose was is status.SaidFault = rose × SaysInPart (developed_text w h) was is
+SaysDeveloped w h rose was is status.OutOfMemory = is ≡ was
+SaysDeveloped w h rose was is status.Usage = ⊥
+SaysDeveloped w h rose was is (status.NotYet what) = ⊥
+SaysDeveloped w h rose was is (status.ShelfFault name) = ⊥
 
 -- Each answer of `develop` with its cause. The counts of faults are those of this call.
 abbrev pub Answers : Command → Option Files → Option Files → (List ℕ → Type 0) → (List ℕ → Type 0) → Type 0 → Option (List ℕ) → Option (List ℕ) → Status → Type 0

@@ -4,12 +4,9 @@
 mod command;
 mod develop;
 mod devices;
-mod run_words;
+mod words;
 mod status;
 
-#[cfg(test)]
-mod tests;
-
 pub use develop::develop_once;
-pub use run_words::run_words;
+pub use words::run_words;
 pub use status::{Input, Status};

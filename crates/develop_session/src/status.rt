@@ -26,6 +26,16 @@ pub enum Status {
     NotYet { what: Input },
 }
 
+impl From<AllocError> for Status {
+    ghost use Rattle.develop_session.specs.declared.status.Status.TheVariants.{OutOfMemory};
+
+    ghost from_gives = { λ _ status. status ≡ OutOfMemory };
+
+    fn from(_error: AllocError) -> Status {
+        Status::OutOfMemory
+    }
+}
+
 impl Status {
     /// The number with which the program exits.
     pub fn code(&self) -> u8

@@ -1,3 +1,4 @@
 pub mod NumberLemmas
 pub mod HeaderLemmas
 pub mod SampleLemmas
+pub mod FrontLemmas

@@ -6,11 +6,6 @@ mod header;
 mod reading;
 mod writing;
 
-
-
-
-
-
 pub use fault::{PnmEnd, PnmFault, PnmKind};
-
-
+pub use reading::read;
+pub use writing::write;

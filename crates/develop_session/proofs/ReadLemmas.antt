@@ -1,0 +1,53 @@
+-- what the front of a file tells of the file
+use Rattle.std.proofs.Common.{◌≡◌, ℕ, List, ◌∷◌, length, take, Option, Some, None, Result, Ok, Err, refl, sym, ap, ◌∙◌, subst, ◌≤◌, arith}
+use Rattle.std.specs.Prelude.{option_map}
+use Rattle.px.specs.Picture.{Picture}
+use Rattle.params.specs.declared.settings.Exposure.{Exposure}
+use Rattle.outside.specs.Shelf.{Files, held}
+use Rattle.pnm.specs.Pnm.{IsPicture}
+use Rattle.pnm.proofs.FrontLemmas.{picture_of_front, picture_in_front}
+use Rattle.edit_script.specs.Reads.{script_of}
+use Rattle.develop_session.specs.Develop.{HasScript, HasNoScript, HasSource, HasNoSource}
+
+-- a file whose front was read stands there
+pub record HasFront (name : List ℕ) (fs : Files) (n : ℕ) (front : List ℕ) : Type 0 where
+  pub bytes : List ℕ
+  pub stands : held fs name ≡ Some bytes
+  pub front_is : take n bytes ≡ front
+
+front_by : (o : Option (List ℕ)) (name : List ℕ) (fs : Files) (n : ℕ) (front : List ℕ) → held fs name ≡ o → option_map (take n) o ≡ Some front → HasFront name fs n front
+front_by None name fs n front is e = absurd cc
+front_by (Some bytes) name fs n front is e = let same : take n bytes ≡ front = cc in record { bytes = bytes; stands = is; front_is = same }
+
+pub front_read : (name : List ℕ) (fs : Files) (n : ℕ) (front : List ℕ) → option_map (take n) (held fs name) ≡ Some front → HasFront name fs n front
+front_read name fs n front e = front_by (held fs name) name fs n front refl e
+
+pub has_script : (name : List ℕ) (fs : Files) (front : List ℕ) (steps : List Exposure) → ((text : List ℕ) → take 4194305 text ≡ front → script_of text ≡ Some steps)
+    → option_map (take 4194305) (held fs name) ≡ Some front → HasScript name fs steps
+has_script name fs front steps tells e = let file = front_read name fs 4194305 front e in
+    record { bytes = file.bytes; stands = file.stands; reads = tells file.bytes file.front_is }
+
+pub has_no_script : (name : List ℕ) (fs : Files) (front : List ℕ) → ((text : List ℕ) → take 4194305 text ≡ front → script_of text ≡ None)
+    → option_map (take 4194305) (held fs name) ≡ Some front → HasNoScript name fs
+has_no_script name fs front tells e = let file = front_read name fs 4194305 front e in
+    record { bytes = file.bytes; stands = file.stands; reads = tells file.bytes file.front_is }
+
+source_front : (name : List ℕ) (fs : Files) (n : ℕ) (front : List ℕ) (q : Picture) → IsPicture front q → HasFront name fs n front → HasSource name fs q
+source_front name fs n front q shows file = record {
+  bytes = file.bytes;
+  stands = file.stands;
+  shows = picture_of_front n file.bytes q (subst (λ t. IsPicture t q) (sym file.front_is) shows)
+}
+
+pub has_source : (name : List ℕ) (fs : Files) (n : ℕ) (front : List ℕ) (q : Picture) → IsPicture front q → option_map (take n) (held fs name) ≡ Some front → HasSource name fs q
+has_source name fs n front q shows e = source_front name fs n front q shows (front_read name fs n front e)
+
+no_source_front : (name : List ℕ) (fs : Files) (n : ℕ) (front : List ℕ) → 100000000 ≤ n → ((q : Picture) → IsPicture front q → ⊥) → HasFront name fs n front → HasNoSource name fs
+no_source_front name fs n front long none file = record {
+  bytes = file.bytes;
+  stands = file.stands;
+  shows = λ q shows. none q (subst (λ t. IsPicture t q) file.front_is (picture_in_front n file.bytes q long shows))
+}
+
+pub has_no_source : (name : List ℕ) (fs : Files) (n : ℕ) (front : List ℕ) → 100000000 ≤ n → ((q : Picture) → IsPicture front q → ⊥) → option_map (take n) (held fs name) ≡ Some front → HasNoSource name fs
+has_no_source name fs n front long none e = no_source_front name fs n front long none (front_read name fs n front e)

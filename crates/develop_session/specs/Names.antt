@@ -1,0 +1,6 @@
+-- the names of a command, as the program holds them
+use Rattle.develop_session.specs.declared.command.Names.{Names}
+use Rattle.develop_session.specs.Words.{Command}
+
+abbrev pub command : Names → Command
+command n = record { script = n.script.now; source = n.source.now; out = n.out.now }
