@@ -36,7 +36,7 @@ source_front : (name : List ℕ) (fs : Files) (n : ℕ) (front : List ℕ) (q : 
 source_front name fs n front q shows file = record {
   bytes = file.bytes;
   stands = file.stands;
-  shows = picture_of_front n file.bytes q (subst (λ t. IsPicture t q) (sym file.front_is) shows)
+  shows = picture_of_front n file.bytes q (subst (λ t. IsPicture t q) (sym file.front_is) shows);
 }
 
 pub has_source : (name : List ℕ) (fs : Files) (n : ℕ) (front : List ℕ) (q : Picture) → IsPicture front q → option_map (take n) (held fs name) ≡ Some front → HasSource name fs q
@@ -46,7 +46,7 @@ no_source_front : (name : List ℕ) (fs : Files) (n : ℕ) (front : List ℕ) �
 no_source_front name fs n front long none file = record {
   bytes = file.bytes;
   stands = file.stands;
-  shows = λ q shows. none q (subst (λ t. IsPicture t q) file.front_is (picture_in_front n file.bytes q long shows))
+  shows = λ q shows. none q (subst (λ t. IsPicture t q) file.front_is (picture_in_front n file.bytes q long shows));
 }
 
 pub has_no_source : (name : List ℕ) (fs : Files) (n : ℕ) (front : List ℕ) → 100000000 ≤ n → ((q : Picture) → IsPicture front q → ⊥) → option_map (take n) (held fs name) ≡ Some front → HasNoSource name fs

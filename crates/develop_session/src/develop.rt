@@ -48,7 +48,12 @@ fn read_script<S: Shelf>(alloc: Global, shelf: &mut S, name: &str) -> Result<Scr
 }
 
 // The picture at the front of the file under a name.
-fn read_source<S: Shelf>(alloc: Global, shelf: &mut S, name: &str, front: usize) -> Result<Plane, Status>
+fn read_source<S: Shelf>(
+    alloc: Global,
+    shelf: &mut S,
+    name: &str,
+    front: usize,
+) -> Result<Plane, Status>
     requires long { 100000000 ≤ front }
     ensures source { IfOk result (λ p. IfSome (S.files shelf.old) (λ fs. HasSource name.now fs (picture_of p))) }
     ensures whole { IfOk result (λ p. IsWhole p) }
@@ -69,7 +74,12 @@ fn read_source<S: Shelf>(alloc: Global, shelf: &mut S, name: &str, front: usize)
 }
 
 // The written bytes of the picture as the script develops it.
-fn develop_bytes<R: Threads + Sync>(rt: &R, alloc: Global, script: &Script, plane: &Plane) -> Result<Vec<u8>, AllocError>
+fn develop_bytes<R: Threads + Sync>(
+    rt: &R,
+    alloc: Global,
+    script: &Script,
+    plane: &Plane,
+) -> Result<Vec<u8>, AllocError>
     requires rgb { plane.now.kind ≡ Rgb }
     requires whole { IsWhole plane.now }
     ensures { IfOk result (λ b. b.items ≡ out_bytes script.now (picture_of plane.now)) }
@@ -126,9 +136,18 @@ pub fn develop_once<R: Threads + Sync, S: Shelf, O: Said>(
 ) -> Status
     ensures { let c : Command = record { script = script.now; source = source.now; out = out.now } in
         Answers c (S.files shelf.old) (S.files shelf.new) (RoseAt (S.read_faults shelf.old) (S.read_faults shelf.new)) (RoseAt (S.put_faults shelf.old) (S.put_faults shelf.new))
-            (Rose (O.faults said.old) (O.faults said.new)) (O.said said.old) (O.said said.new) result }
+        (Rose (O.faults said.old) (O.faults said.new)) (O.said said.old) (O.said said.new) result }
 {
-    match develop(rt, alloc, Names { script, source, out }, shelf) {
+    match develop(
+        rt,
+        alloc,
+        Names {
+            script,
+            source,
+            out,
+        },
+        shelf,
+    ) {
         Ok((w, h)) => say_developed(alloc, said, w, h),
         Err(status) => {
             tell(alloc, said, &status);

@@ -25,7 +25,12 @@ fn failed_at(alloc: Global, failed: Failed, name: &str) -> Status
 }
 
 // The front of an input file.
-pub(crate) fn read_file<S: Shelf>(alloc: Global, shelf: &mut S, name: &str, limit: usize) -> Result<Vec<u8>, Status>
+pub(crate) fn read_file<S: Shelf>(
+    alloc: Global,
+    shelf: &mut S,
+    name: &str,
+    limit: usize,
+) -> Result<Vec<u8>, Status>
     requires { 0 < limit }
     ensures content { IfOk result (λ v. IfSome (S.files shelf.old) (λ fs. option_map (take limit) (held fs name.now) ≡ Some v.items)) }
     ensures cause { IfErr result (FailsAt name.now (Rose (S.read_faults shelf.old name.now) (S.read_faults shelf.new name.now))) }
@@ -40,7 +45,12 @@ pub(crate) fn read_file<S: Shelf>(alloc: Global, shelf: &mut S, name: &str, limi
 }
 
 // Puts the bytes of a file. The name of a fault is made first, so that want of memory changes nothing.
-pub(crate) fn put_file<S: Shelf>(alloc: Global, shelf: &mut S, name: &str, bytes: &[u8]) -> Result<(), Status>
+pub(crate) fn put_file<S: Shelf>(
+    alloc: Global,
+    shelf: &mut S,
+    name: &str,
+    bytes: &[u8],
+) -> Result<(), Status>
     ensures ok { OnOk result (Puts name.now bytes.now (S.files shelf.old) (S.files shelf.new)) }
     ensures cause { IfErr result (PutFailsAt name.now bytes.now (Rose (S.put_faults shelf.old name.now) (S.put_faults shelf.new name.now)) (S.files shelf.old) (S.files shelf.new)) }
     ensures reads { NoneFalls (S.read_faults shelf.old) (S.read_faults shelf.new) }

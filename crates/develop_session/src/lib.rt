@@ -4,9 +4,11 @@
 mod command;
 mod develop;
 mod devices;
-mod words;
 mod status;
+#[cfg(test)]
+mod tests;
+mod words;
 
 pub use develop::develop_once;
-pub use words::run_words;
 pub use status::{Input, Status};
+pub use words::run_words;

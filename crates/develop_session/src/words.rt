@@ -32,7 +32,7 @@ pub fn run_words<R: Threads + Sync, S: Shelf, O: Said>(
     ensures usage_told { result ≡ usage_status → Tells (refusal_text usage_status) (Rose (O.faults said.old) (O.faults said.new)) (O.said said.old) (O.said said.new) }
     ensures answer { IfSome (command_of (texts words.now)) (λ c.
         Answers c (S.files shelf.old) (S.files shelf.new) (RoseAt (S.read_faults shelf.old) (S.read_faults shelf.new)) (RoseAt (S.put_faults shelf.old) (S.put_faults shelf.new))
-            (Rose (O.faults said.old) (O.faults said.new)) (O.said said.old) (O.said said.new) result) }
+        (Rose (O.faults said.old) (O.faults said.new)) (O.said said.old) (O.said said.new) result) }
 {
     match names_of(words) {
         None => {
@@ -40,6 +40,14 @@ pub fn run_words<R: Threads + Sync, S: Shelf, O: Said>(
             tell(alloc, said, &status);
             status
         }
-        Some(names) => develop_once(rt, alloc, names.script, names.source, names.out, shelf, said),
+        Some(names) => develop_once(
+            rt,
+            alloc,
+            names.script,
+            names.source,
+            names.out,
+            shelf,
+            said,
+        ),
     }
 }

@@ -46,10 +46,10 @@ count_of_items (v ∷ vs) = ap suc (count_of_items vs)
 pub script_of_front : (text bytes : List ℕ) → take 4194305 text ≡ bytes → script_of text ≡ script_of bytes
 script_of_front text bytes front = ⊎_elim
     (λ (longer : 4194304 < length text).
-      let len : length bytes ≡ 4194305 = ap length (sym front) ∙ rw (length-take 4194305 text) (omega arith) in
-      let whole : nat_le (length text) 4194304 ≡ false = grind (arith, nat_tests) in
-      let cut : nat_le (length bytes) 4194304 ≡ false = grind (arith, nat_tests) in
-      rw (whole, cut) refl)
+    let len : length bytes ≡ 4194305 = ap length (sym front) ∙ rw (length-take 4194305 text) (omega arith) in
+    let whole : nat_le (length text) 4194304 ≡ false = grind (arith, nat_tests) in
+    let cut : nat_le (length bytes) 4194304 ≡ false = grind (arith, nat_tests) in
+    rw (whole, cut) refl)
     (λ (within : length text ≤ 4194304). ap script_of (sym (take_all 4194305 text (omega arith)) ∙ front))
     (cases_lt 4194304 (length text))
 

@@ -4,9 +4,8 @@
 mod fault;
 mod reading;
 mod script;
-
-
-
+#[cfg(test)]
+mod tests;
 
 pub use fault::{Reason, ScriptEnd, ScriptFault};
 pub use reading::read;

@@ -5,8 +5,7 @@
 #![tactic(auto)]
 
 mod exposing;
-
-
-
+#[cfg(test)]
+mod tests;
 
 pub use exposing::exposure;

@@ -12,7 +12,12 @@ pub form_of_front : (n : ℕ) (bytes : List ℕ) (w h : ℕ) (raster : List ℕ)
 form_of_front n bytes w h raster form = record {
   rest = form.rest ++ drop n bytes;
   text = sym (take-append-drop n bytes) ∙ (ap (λ t. t ++ drop n bytes) form.text ∙ simp append_assoc);
-  some_wide = form.some_wide; some_high = form.some_high; wide = form.wide; high = form.high; pixels = form.pixels; len = form.len
+  some_wide = form.some_wide;
+  some_high = form.some_high;
+  wide = form.wide;
+  high = form.high;
+  pixels = form.pixels;
+  len = form.len;
 }
 
 short_header : (w h : ℕ) → w ≤ 16384 → h ≤ 16384 → length (header w h 255) ≤ 20
@@ -35,7 +40,12 @@ form_in_front n bytes w h raster long form =
     record {
       rest = take left form.rest;
       text = ap (take n) whole ∙ (ap (λ k. take k (front ++ form.rest)) n_is ∙ (take-append-add front form.rest left ∙ append_assoc (header w h 255) raster (take left form.rest)));
-      some_wide = form.some_wide; some_high = form.some_high; wide = form.wide; high = form.high; pixels = form.pixels; len = form.len
+      some_wide = form.some_wide;
+      some_high = form.some_high;
+      wide = form.wide;
+      high = form.high;
+      pixels = form.pixels;
+      len = form.len;
     }
 
 pub picture_of_front : (n : ℕ) (bytes : List ℕ) (q : Picture) → IsPicture (take n bytes) q → IsPicture bytes q

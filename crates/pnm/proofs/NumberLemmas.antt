@@ -23,16 +23,16 @@ front_of_number text k v c rest digits within few stops text_is low small =
     let longer : n < length text = rw text_is (omega (arith, length-append (decimal v) (c ∷ rest))) in
     let numeral = (decimal_is_IsNumeral v (omega arith)).0 in
     ⊎_elim
-      (λ (earlier : k < n). absurd (stops (omega arith) (omega arith)
-        (let e : slice_index text k ≡ slice_index (decimal v) k = rw text_is (get_or_append_left (decimal v) (c ∷ rest) 0 k earlier) in rw e (digit_at (decimal v) k numeral.1 earlier))))
-      (λ (past : n ≤ k). ⊎_elim
-        (λ (later : n < k). 
-          let end : slice_index (take k text) n ≡ c = get_or-take k text n 0 later ∙ (ap (λ t. slice_index t n) text_is ∙ get_or-append_seam (decimal v) c rest 0) in
-          let at = rw end at (digit_at (take k text) n digits (rw (length-take k text) (omega arith))) in
-          absurd (omega arith))
-        (λ (last : k ≤ n). omega arith)
-        (cases_lt n k))
-      (cases_lt k n)
+    (λ (earlier : k < n). absurd (stops (omega arith) (omega arith)
+    (let e : slice_index text k ≡ slice_index (decimal v) k = rw text_is (get_or_append_left (decimal v) (c ∷ rest) 0 k earlier) in rw e (digit_at (decimal v) k numeral.1 earlier))))
+    (λ (past : n ≤ k). ⊎_elim
+    (λ (later : n < k).
+    let end : slice_index (take k text) n ≡ c = get_or-take k text n 0 later ∙ (ap (λ t. slice_index t n) text_is ∙ get_or-append_seam (decimal v) c rest 0) in
+    let at = rw end at (digit_at (take k text) n digits (rw (length-take k text) (omega arith))) in
+    absurd (omega arith))
+    (λ (last : k ≤ n). omega arith)
+    (cases_lt n k))
+    (cases_lt k n)
 
 pub number_gives : (text : List ℕ) (value k v c : ℕ) (rest : List ℕ) → AllDigits 10 (take k text) → value ≡ digits_value 10 (take k text) → k ≤ length text → k ≤ 5
     → (k < length text → k < 5 → IsInRange 48 57 (slice_index text k) → ⊥)
@@ -50,9 +50,10 @@ digit_is c low high = grind (arith, nat_tests)
 pub digits_step : (text : List ℕ) (k more : ℕ) → AllDigits 10 (take k text) → k < length text → IsInRange 48 57 (slice_index text k) → more ≡ slice_index text k - 48
     → AllDigits 10 (take (k + 1) text) × (digits_value 10 (take k text) * 10 + more ≡ digits_value 10 (take (k + 1) text))
 digits_step text k more digits within range more_is =
-    let value = digit_is (slice_index text k) range.0 range.1 in
-    (digits_more 10 text k within digits (omega arith),
-     rw (more_is, ← value) (sym (digits_value_more 10 text k within)))
+    let value = digit_is (slice_index text k) range.0 range.1 in (
+      digits_more 10 text k within digits (omega arith),
+      rw (more_is, ← value) (sym (digits_value_more 10 text k within)),
+    )
 
 pub pow_step : (value more k : ℕ) → value < 10 ^ k → more < 10 → value * 10 + more < 10 ^ (k + 1)
 pow_step value more k below digit = let e : 10 ^ (k + 1) ≡ 10 ^ k * 10 = rw (add-one, pow-suc) refl in rw e (omega arith)

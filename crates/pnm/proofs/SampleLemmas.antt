@@ -38,10 +38,10 @@ picture_from_values bytes w h samples values form values_is = record {
   form = form;
   kind = refl;
   same = λ x y c column row below.
-    let at = (y * w + x) * 3 + c in
-    let within : at < length samples = rw form.len (omega (arith, mul-add-lt y w x h row column)) in
-    let column_is : x - 0 ≡ x = omega arith in
-    let row_is : y - 0 ≡ y = omega arith in
-    let e : ((y - 0) * w + (x - 0)) * 3 + c ≡ at = rw (column_is, row_is) refl in
-    rw (e, values_is) (get_or-map (scaled 255) samples at 0 0 within)
+      let at = (y * w + x) * 3 + c in
+      let within : at < length samples = rw form.len (omega (arith, mul-add-lt y w x h row column)) in
+      let column_is : x - 0 ≡ x = omega arith in
+      let row_is : y - 0 ≡ y = omega arith in
+      let e : ((y - 0) * w + (x - 0)) * 3 + c ≡ at = rw (column_is, row_is) refl in
+      rw (e, values_is) (get_or-map (scaled 255) samples at 0 0 within);
 }

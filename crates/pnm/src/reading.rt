@@ -54,7 +54,10 @@ fn first_form<'a>(alloc: Global, bytes: &'a [u8]) -> Result<Option<Raster<'a>>, 
 fn scale(alloc: Global, samples: &[u8]) -> Result<Vec<u32>, AllocError>
     ensures { IfOk result (λ v. v.items ≡ map (scaled 255) samples.now) }
 {
-    samples.iter().map(|sample| u32::from(*sample) * 257).collect(alloc)
+    samples
+        .iter()
+        .map(|sample| u32::from(*sample) * 257)
+        .collect(alloc)
 }
 
 // Bytes that aren't a picture.

@@ -33,7 +33,13 @@ fn add_sixteen(out: &mut Vec<u8>, values: &[u32]) -> Result<(), AllocError>
 }
 
 // The bytes of the values of a picture of sides `w` and `h`.
-fn write_values(alloc: Global, w: u32, h: u32, values: &[u32], depth: Depth) -> Result<Vec<u8>, AllocError>
+fn write_values(
+    alloc: Global,
+    w: u32,
+    h: u32,
+    values: &[u32],
+    depth: Depth,
+) -> Result<Vec<u8>, AllocError>
     requires { length values.now < 2 ^ 40 }
     ensures { IfOk result (λ b. b.items ≡ written_values w h values.now depth) }
 {

@@ -27,15 +27,15 @@ pub rows_of_chunks : (post : ℕ → ℕ → List ℕ → Type 0) (x y w size h 
     → AreRows post x y w size h ys
 rows_of_chunks post x y w size h stride ys stride_is wide len rows = record {
   pixels = λ j k below k_lt. given_along (post (x + k) (y + j)) size
-    (λ c. slice_index (take stride (drop (j * stride) ys)) (k * size + c)) (λ c. slice_index ys ((j * w + k) * size + c))
-    (λ c d. let e : (j * w + k) * size + c ≡ j * stride + (k * size + c) = rw stride_is (place_in_row j w k size c) in
+      (λ c. slice_index (take stride (drop (j * stride) ys)) (k * size + c)) (λ c. slice_index ys ((j * w + k) * size + c))
+      (λ c d. let e : (j * w + k) * size + c ≡ j * stride + (k * size + c) = rw stride_is (place_in_row j w k size c) in
       rw e (in_chunk stride (j * stride) ys (k * size + c) (rw stride_is (value_fits k w size c k_lt d))))
-    ((rows j below).pixels k k_lt);
+      ((rows j below).pixels k k_lt);
   top = λ i. ⊎_elim
-    (λ (within : i < length ys).
+      (λ (within : i < length ys).
       let j = i / stride in
       let o = i % stride in
       top_at ys stride j o i (omega arith) (mod_below i stride wide) ((rows j (div_below i stride h wide (omega arith))).top o))
-    (λ (past : length ys ≤ i). rw (get_or_past ys i 0 past) (omega arith))
-    (cases_lt i (length ys))
+      (λ (past : length ys ≤ i). rw (get_or_past ys i 0 past) (omega arith))
+      (cases_lt i (length ys));
 }

@@ -35,13 +35,16 @@ pub painted_of_rows : (kind : PlaneKind) (w h x y cols high size len : ℕ) (a :
     → IsPainted kind w h a post (record { kind = kind; w = w; h = h; area = a; values = take len (values ++ rest) })
 painted_of_rows kind w h x y cols high size len a post values rest x_is y_is w_is h_is size_is len_is rows =
     rw (take_at values rest len (sym len_is)) (record {
-      kind_is = refl; wide = refl; high = refl; area = refl;
+      kind_is = refl;
+      wide = refl;
+      high = refl;
+      area = refl;
       pixels = pixels_of_rows kind w h a post values
-        (subst (λ n. AreRows post n a.y a.w (channels kind) a.h values) x_is
+          (subst (λ n. AreRows post n a.y a.w (channels kind) a.h values) x_is
           (subst (λ n. AreRows post x n a.w (channels kind) a.h values) y_is
-            (subst (λ n. AreRows post x y n (channels kind) a.h values) w_is
-              (subst (λ n. AreRows post x y cols n a.h values) size_is
-                (subst (λ n. AreRows post x y cols size n values) h_is rows)))))
+          (subst (λ n. AreRows post x y n (channels kind) a.h values) w_is
+          (subst (λ n. AreRows post x y cols n a.h values) size_is
+          (subst (λ n. AreRows post x y cols size n values) h_is rows)))));
     })
 
 -- a painted plane is the cut of each picture that has these values there
@@ -54,10 +57,10 @@ cut_of_painted kind m w h a post p painted kind_is wide high same = record {
   wide = painted.wide ∙ sym wide;
   high = painted.high ∙ sym high;
   same = λ x y c inside below.
-    let here : HasPixel a x y = rw painted.area at inside in
-    let size : c < channels kind = rw kind_is at below in
-    let pixel = painted.pixels x y here in
-    sym (pixel.same c size) ∙ (ap (λ r. slice_index r c) (same x y pixel.answer here pixel.given) ∙ channel_of_pixel m.kind (m.at x y) c below)
+      let here : HasPixel a x y = rw painted.area at inside in
+      let size : c < channels kind = rw kind_is at below in
+      let pixel = painted.pixels x y here in
+      sym (pixel.same c size) ∙ (ap (λ r. slice_index r c) (same x y pixel.answer here pixel.given) ∙ channel_of_pixel m.kind (m.at x y) c below);
 }
 
 -- the pixel of a plane is that of each picture that it is a cut of

@@ -31,14 +31,14 @@ adds_three k at row answer e fits =
     let l1 = length-set {A = ℕ} s0 (at + 1) (slice_index answer 1) in
     let row' = set s1 (at + 2) (slice_index answer 2) in
     let other : (i : ℕ) → i ≢ at → i ≢ at + 1 → i ≢ at + 2 → slice_index row' i ≡ slice_index row i =
-      (λ i n0 n1 n2. get_or-set_other s1 (at + 2) i _ 0 n2 ∙ (get_or-set_other s0 (at + 1) i _ 0 n1 ∙ get_or-set_other row at i _ 0 n0)) in
+    (λ i n0 n1 n2. get_or-set_other s1 (at + 2) i _ 0 n2 ∙ (get_or-set_other s0 (at + 1) i _ 0 n1 ∙ get_or-set_other row at i _ 0 n0)) in
     record {
       before = λ i h. other i (omega arith) (omega arith) (omega arith);
       here = three (λ c. slice_index row' (k * 3 + c) ≡ slice_index answer c)
-        (let i : k * 3 + 0 ≡ at = omega arith in rw i (get_or-set_other s1 (at + 2) at _ 0 (omega arith) ∙ (get_or-set_other s0 (at + 1) at _ 0 (omega arith) ∙ get_or-set_same row at _ 0 (omega arith))))
-        (let i : k * 3 + 1 ≡ at + 1 = omega arith in rw i (get_or-set_other s1 (at + 2) (at + 1) _ 0 (omega arith) ∙ get_or-set_same s0 (at + 1) _ 0 (omega arith)))
-        (let i : k * 3 + 2 ≡ at + 2 = omega arith in rw i (get_or-set_same s1 (at + 2) _ 0 (omega arith)));
-      after = λ i h. other i (omega arith) (omega arith) (omega arith)
+          (let i : k * 3 + 0 ≡ at = omega arith in rw i (get_or-set_other s1 (at + 2) at _ 0 (omega arith) ∙ (get_or-set_other s0 (at + 1) at _ 0 (omega arith) ∙ get_or-set_same row at _ 0 (omega arith))))
+          (let i : k * 3 + 1 ≡ at + 1 = omega arith in rw i (get_or-set_other s1 (at + 2) (at + 1) _ 0 (omega arith) ∙ get_or-set_same s0 (at + 1) _ 0 (omega arith)))
+          (let i : k * 3 + 2 ≡ at + 2 = omega arith in rw i (get_or-set_same s1 (at + 2) _ 0 (omega arith)));
+      after = λ i h. other i (omega arith) (omega arith) (omega arith);
     }
 
 -- one write at the place of a pixel
@@ -46,7 +46,7 @@ pub adds_one : (k : ℕ) (row answer : List ℕ) → k + 1 ≤ length row → Ad
 adds_one k row answer fits = record {
   before = λ i h. get_or-set_other row k i _ 0 (omega arith);
   here = λ c h. let c0 : c ≡ 0 = omega arith in rw c0 (let i : k * 1 + 0 ≡ k = omega arith in rw i (get_or-set_same row k _ 0 (omega arith)));
-  after = λ i h. get_or-set_other row k i _ 0 (omega arith)
+  after = λ i h. get_or-set_other row k i _ 0 (omega arith);
 }
 
 pub given_along : (post : List ℕ → Type 0) (size : ℕ) (f f' : ℕ → ℕ) → ((c : ℕ) → c < size → f c ≡ f' c) → IsGiven post size f → IsGiven post size f'
@@ -60,16 +60,16 @@ pub row_more : (post : ℕ → ℕ → List ℕ → Type 0) (x y size k : ℕ) (
     → IsRow post x y size (k + 1) row'
 row_more post x y size k row answer row' was given top adds = record {
   pixels = λ j h. ⊎_elim
-    (λ below. given_along (post (x + j) y) size _ _ (λ c d. sym (adds.before (j * size + c) (omega (arith, mul-add-lt j size c k below d)))) (was.pixels j below))
-    (λ past. let j_is : j ≡ k = omega arith in rw j_is (record { answer = answer; given = given; same = λ c d. sym (adds.here c d) }))
-    (cases_lt j k);
+      (λ below. given_along (post (x + j) y) size _ _ (λ c d. sym (adds.before (j * size + c) (omega (arith, mul-add-lt j size c k below d)))) (was.pixels j below))
+      (λ past. let j_is : j ≡ k = omega arith in rw j_is (record { answer = answer; given = given; same = λ c d. sym (adds.here c d) }))
+      (cases_lt j k);
   top = λ i. ⊎_elim
-    (λ below. rw (adds.before i below) (was.top i))
-    (λ past. ⊎_elim
+      (λ below. rw (adds.before i below) (was.top i))
+      (λ past. ⊎_elim
       (λ within. top_within row' answer i (k * size) (i - k * size) (omega arith) (adds.here (i - k * size) (omega arith)) (top (i - k * size)))
       (λ beyond. rw (adds.after i beyond) (was.top i))
       (cases_lt i (k * size + size)))
-    (cases_lt i (k * size))
+      (cases_lt i (k * size));
 }
 
 -- a part of a list that was written as a whole
@@ -104,19 +104,19 @@ rows_more post x y w size j at k values row was new at_is k_is len fits =
     let whole : length row ≡ k = omega arith in
     record {
       pixels = λ i p below p_lt. ⊎_elim
-        (λ (earlier : i < j). given_along (post (x + p) (y + i)) size _ _
+          (λ (earlier : i < j). given_along (post (x + p) (y + i)) size _ _
           (λ c d. sym (mid_before at k values row ((i * w + p) * size + c)
-            (rw (place_in_row i w p size c, at_is) (omega (arith, value_fits p w size c p_lt d, row_fits i j w size earlier))) start)) (was.pixels i p earlier p_lt))
-        (λ (here : j ≤ i). let i_is : i ≡ j = omega arith in rw i_is (given_along (post (x + p) (y + j)) size
+          (rw (place_in_row i w p size c, at_is) (omega (arith, value_fits p w size c p_lt d, row_fits i j w size earlier))) start)) (was.pixels i p earlier p_lt))
+          (λ (here : j ≤ i). let i_is : i ≡ j = omega arith in rw i_is (given_along (post (x + p) (y + j)) size
           (λ c. slice_index row (p * size + c)) (λ c. slice_index (put_mid at k values row) ((j * w + p) * size + c))
           (λ c d. let e : (j * w + p) * size + c ≡ at + (p * size + c) = place_in_row j w p size c ∙ ap (λ n. n + (p * size + c)) (sym at_is) in
-            rw e (sym (mid_within at k values row (p * size + c) (rw len (value_fits p w size c p_lt d)) start))) (new.pixels p p_lt)))
-        (cases_lt i j);
+          rw e (sym (mid_within at k values row (p * size + c) (rw len (value_fits p w size c p_lt d)) start))) (new.pixels p p_lt)))
+          (cases_lt i j);
       top = λ i. ⊎_elim
-        (λ (before : i < at). rw (mid_before at k values row i before start) (was.top i))
-        (λ (past : at ≤ i). ⊎_elim
+          (λ (before : i < at). rw (mid_before at k values row i before start) (was.top i))
+          (λ (past : at ≤ i). ⊎_elim
           (λ (within : i < at + k). top_within (put_mid at k values row) row i at (i - at) (omega arith) (mid_within at k values row (i - at) (omega arith) start) (new.top (i - at)))
           (λ (after : at + k ≤ i). rw (mid_after at k values row i after start whole) (was.top i))
           (cases_lt i (at + k)))
-        (cases_lt i at)
+          (cases_lt i at);
     }

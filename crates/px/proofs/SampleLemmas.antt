@@ -21,9 +21,9 @@ pub samples_from_pixels : (w h : ℕ) (values : List ℕ) (q : Picture) → 0 < 
     → values ≡ samples_of q
 samples_from_pixels w h values q some len wide high same =
     rw (wide, high) (fill_by_all (λ i. q.at (i / 3 % w) (i / 3 / w) (i % 3)) values (h * w * 3) 0 len
-      (λ i below.
-        let e = same (i / 3 % w) (i / 3 / w) (i % 3) (mod_below (i / 3) w some) (row_of_index w h i some below) (mod_below i 3 (omega arith)) in
-        ap (slice_index values) (sym (place_of_index w i some)) ∙ e))
+    (λ i below.
+    let e = same (i / 3 % w) (i / 3 / w) (i % 3) (mod_below (i / 3) w some) (row_of_index w h i some below) (mod_below i 3 (omega arith)) in
+    ap (slice_index values) (sym (place_of_index w i some)) ∙ e))
 
 -- the values of a whole plane are the samples of each picture that it is the cut of
 pub samples_of_whole : (p : Cut) (q : Picture) → IsPlane p → IsCutOf q p → p.kind ≡ Rgb → IsWhole p → p.values ≡ samples_of q
@@ -37,9 +37,9 @@ samples_of_whole p q valid part rgb whole =
     let len : length p.values ≡ p.h * p.w * 3 = valid.len ∙ rw (wide, high, size) refl in
     let some : 0 < p.w = omega (arith, valid.area.wide) in
     samples_from_pixels p.w p.h p.values q some len (sym part.wide) (sym part.high)
-      (λ x y c column row below.
-        let inside : HasPixel p.area x y = record { left = omega arith; right = omega arith; top = omega arith; bottom = omega arith } in
-        let column_is : x - p.area.x ≡ x = omega arith in
-        let row_is : y - p.area.y ≡ y = omega arith in
-        let at : place p x y + c ≡ (y * p.w + x) * 3 + c = rw (column_is, row_is, wide, size) refl in
-        ap (slice_index p.values) (sym at) ∙ part.same x y c inside (rw kind below))
+    (λ x y c column row below.
+    let inside : HasPixel p.area x y = record { left = omega arith; right = omega arith; top = omega arith; bottom = omega arith } in
+    let column_is : x - p.area.x ≡ x = omega arith in
+    let row_is : y - p.area.y ≡ y = omega arith in
+    let at : place p x y + c ≡ (y * p.w + x) * 3 + c = rw (column_is, row_is, wide, size) refl in
+    ap (slice_index p.values) (sym at) ∙ part.same x y c inside (rw kind below))

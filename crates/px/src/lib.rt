@@ -12,10 +12,8 @@ mod painting;
 mod plane;
 mod region;
 mod row_painter;
-//mod repaint;
-
-
-
+#[cfg(test)]
+mod tests;
 
 pub use depth::Depth;
 pub use kind::{Cfa, Colour, PlaneKind};

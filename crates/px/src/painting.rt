@@ -56,7 +56,12 @@ fn fill_nth<P: RowPainter>(painter: &P, rows: Rows, j: usize, row: &mut [u32])
 }
 
 // Fills rows side by side.
-fn fill_side_by_side<R: Threads + Sync, P: RowPainter + Sync>(rt: &R, painter: &P, rows: Rows, values: &mut [u32])
+fn fill_side_by_side<R: Threads + Sync, P: RowPainter + Sync>(
+    rt: &R,
+    painter: &P,
+    rows: Rows,
+    values: &mut [u32],
+)
     requires size { rows.size ≡ P.size painter.now }
     requires asks { AsksIn (area_of rows) (P.asks painter.now) }
     requires gives { GivesTop (area_of rows) (P.gives painter.now) }
@@ -69,21 +74,26 @@ fn fill_side_by_side<R: Threads + Sync, P: RowPainter + Sync>(rt: &R, painter: &
     ensures rows { AreRows (P.gives painter.now) rows.x rows.y rows.w rows.size rows.h values.new }
 {
     let stride = rows.w as usize * rows.size;
-    par_chunks_mut_for_each(rt, values, stride, |start: usize, row: &mut [u32]|
-        requires size { rows.size ≡ P.size painter.now }
-        requires asks { AsksIn (area_of rows) (P.asks painter.now) }
-        requires gives { GivesTop (area_of rows) (P.gives painter.now) }
-        requires right { rows.x + rows.w ≤ 16384 }
-        requires bottom { rows.y + rows.h ≤ 16384 }
-        requires stride { stride ≡ rows.w * rows.size }
-        requires wide { 0 < stride }
-        requires within { start / stride < rows.h }
-        requires len { length row.now ≡ stride }
-        requires top { (i : ℕ) → slice_index row.now i ≤ 1048575 }
-        ensures { IsRow (P.gives painter.entry.now) rows.x (rows.y + start / stride) rows.size rows.w row.exit.now }
-    {
-        fill_nth(painter, rows, start / stride, row);
-    });
+    par_chunks_mut_for_each(
+        rt,
+        values,
+        stride,
+        |start: usize, row: &mut [u32]|
+            requires size { rows.size ≡ P.size painter.now }
+            requires asks { AsksIn (area_of rows) (P.asks painter.now) }
+            requires gives { GivesTop (area_of rows) (P.gives painter.now) }
+            requires right { rows.x + rows.w ≤ 16384 }
+            requires bottom { rows.y + rows.h ≤ 16384 }
+            requires stride { stride ≡ rows.w * rows.size }
+            requires wide { 0 < stride }
+            requires within { start / stride < rows.h }
+            requires len { length row.now ≡ stride }
+            requires top { (i : ℕ) → slice_index row.now i ≤ 1048575 }
+            ensures { IsRow (P.gives painter.entry.now) rows.x (rows.y + start / stride) rows.size rows.w row.exit.now }
+        {
+            fill_nth(painter, rows, start / stride, row);
+        },
+    );
 }
 
 // The rows of a region.

@@ -36,7 +36,13 @@ impl Plane {
         requires { IsPlane (record { kind = kind; w = w; h = h; area = region; values = values.items }) }
         ensures { result ≡ record { kind = kind; w = w; h = h; area = region; values = values.items } }
     {
-        Plane { kind, w, h, region, values }
+        Plane {
+            kind,
+            w,
+            h,
+            region,
+            values,
+        }
     }
 
     pub fn kind(&self) -> PlaneKind
@@ -76,7 +82,8 @@ impl Plane {
         ensures place { result ≡ place self.now x y }
         ensures end { result + channels self.now.kind ≤ length self.now.values }
     {
-        ((y - self.region.y) as usize * self.region.w as usize + (x - self.region.x) as usize) * size
+        ((y - self.region.y) as usize * self.region.w as usize + (x - self.region.x) as usize)
+            * size
     }
 
     /// The value of a mosaic's pixel in column `x` and row `y` of the whole picture.

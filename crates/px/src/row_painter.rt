@@ -2,7 +2,6 @@
 ghost use Rattle.std.specs.Prelude.{◌≡◌, ℕ, ◌+◌, ◌*◌, ◌<◌, ◌≤◌, List, length, slice_index};
 ghost use Rattle.px.specs.Painted.{IsRow, GivesOne};
 
-
 /// What fills the rows of a plane: a closure of a pixel, or a kernel that goes along a row.
 pub trait RowPainter {
     /// How many values a pixel has.
@@ -69,4 +68,3 @@ impl<F: Fn(u32, u32) -> u32> RowPainter for ByValue<F> {
         }
     }
 }
-

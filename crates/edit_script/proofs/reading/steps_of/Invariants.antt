@@ -10,5 +10,5 @@ abbrev pub invariant-loop-value : goal.invariant-loop-value
 invariant-loop-value l = record {
   len : length l.steps.items ≡ l.value-index;
   within : AllByRecursion IsExposure l.steps.items;
-  same : with_front l.steps.items (steps_of (items_view (drop l.value-index l.values))) ≡ steps_of (items_view l.values)
+  same : with_front l.steps.items (steps_of (items_view (drop l.value-index l.values))) ≡ steps_of (items_view l.values);
 }

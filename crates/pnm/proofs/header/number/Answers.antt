@@ -22,5 +22,5 @@ loop-k-preserved c =
       few = omega arith;
       digits = step.0;
       value = ap (λ n. n * 10 + c.in-Some.more) c.loop-k.invariant.value ∙ step.1;
-      small = pow_step c.loop-k.value c.in-Some.more c.loop-k.k c.loop-k.invariant.small (omega (arith, c.in-Some.ensures.1, c.in-Some.ensures.0.1))
+      small = pow_step c.loop-k.value c.in-Some.more c.loop-k.k c.loop-k.invariant.small (omega (arith, c.in-Some.ensures.1, c.in-Some.ensures.0.1));
     }

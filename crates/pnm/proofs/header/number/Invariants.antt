@@ -7,5 +7,5 @@ invariant-loop-k l = record {
   few : l.k ≤ 5;
   digits : AllDigits 10 (take l.k l.text);
   value : l.value ≡ digits_value 10 (take l.k l.text);
-  small : l.value < 10 ^ l.k
+  small : l.value < 10 ^ l.k;
 }

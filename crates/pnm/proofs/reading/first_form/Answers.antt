@@ -22,5 +22,5 @@ returns c =
       wide = omega arith;
       high = omega arith;
       pixels = omega arith;
-      len = rw (length-take count rest) (omega arith)
+      len = rw (length-take count rest) (omega arith);
     }

@@ -16,5 +16,5 @@ from_rows-requires c =
       wide = omega arith;
       high = omega arith;
       len = ap length c.in_ok-values.ensures ∙ (simp length-map form.len);
-      top = λ i. rw c.in_ok-values.ensures (scaled_all_top c.in-Some.raster.samples.now i)
+      top = λ i. rw c.in_ok-values.ensures (scaled_all_top c.in-Some.raster.samples.now i);
     })

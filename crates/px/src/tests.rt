@@ -1,0 +1,59 @@
+use crate::{
+    ByPixel, ByValue, Cfa, Plane, PlaneKind, Region, clamp_top, mul_floor, paint, paint_in_turn,
+};
+use std::test::Fail;
+
+#[test]
+fn a_region_ends_within_the_longest_side(rt: HostRuntime) {
+    for (x, w, is) in [
+        (0, 0, false),
+        (0, 16_384, true),
+        (1, 16_384, false),
+        (16_383, 1, true),
+        (16_384, 1, false),
+        (u32::MAX, 1, false),
+    ] {
+        assert_eq!(rt;
+            Region::new(x, 0, w, 1).is_some(),
+            is,
+            "{w} columns from {x}"
+        );
+        assert_eq!(rt; Region::new(0, x, 1, w).is_some(), is, "{w} rows from {x}");
+    }
+}
+
+// -1 * 4096 / 2^12 is -1, and -3 / 2 is -2: towards minus infinity.
+#[test]
+fn products_are_rounded_down(rt: HostRuntime) {
+    assert_eq!(rt; mul_floor(-1, 4096, 12), -1);
+    assert_eq!(rt; mul_floor(-3, 1, 1), -2);
+    assert_eq!(rt; clamp_top(-1), 0);
+    assert_eq!(rt; clamp_top(1_048_576), 1_048_575);
+}
+
+#[test]
+fn a_painted_pixel_is_what_its_closure_gives(rt: HostRuntime) -> Result<(), Fail> {
+    let region = Region::new(1, 2, 2, 1).ok_or("a region")?;
+    let pixel = |x: u32, y: u32| [x, y, 7];
+    let plane = paint(
+        &rt,
+        rt.alloc(),
+        PlaneKind::Rgb,
+        3,
+        4,
+        region,
+        &ByPixel { pixel },
+    )?;
+    assert_eq!(rt; plane.values(), [1, 2, 7, 2, 2, 7].as_slice());
+    Ok(())
+}
+
+#[test]
+fn a_mosaic_has_one_value_a_pixel(rt: HostRuntime) -> Result<(), Fail> {
+    let region = Region::new(0, 1, 2, 2).ok_or("a region")?;
+    let value = |x: u32, y: u32| x ^ y;
+    let kind = PlaneKind::Mosaic(Cfa::Rggb);
+    let plane = paint_in_turn(rt.alloc(), kind, 2, 3, region, &ByValue { value })?;
+    assert_eq!(rt; plane.values(), [1, 0, 2, 3].as_slice());
+    Ok(())
+}
