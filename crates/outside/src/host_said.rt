@@ -1,7 +1,6 @@
 ghost use Rattle.std.specs.Prelude.{◌≡◌, ℕ, ◌≤◌, List, OnOk, IsErrOf, Option, None};
-ghost use Rattle.outside.specs.Faults.{Rose};
+ghost use Rattle.outside.specs.Faults.{Rose, counted};
 ghost use Rattle.outside.specs.Said.{Says, SaysInPart};
-ghost use Rattle.outside.specs.Faults.{counted};
 
 use crate::failed::Failed;
 use crate::said::Said;

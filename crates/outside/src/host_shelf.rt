@@ -1,7 +1,6 @@
 ghost use Rattle.std.specs.Prelude.{◌≡◌, ℕ, ◌≤◌, List, length, IfOk, IfSome, OnOk, IsErrOf, Option, None};
-ghost use Rattle.outside.specs.Faults.{Rose, NoneFalls};
+ghost use Rattle.outside.specs.Faults.{Rose, NoneFalls, counted};
 ghost use Rattle.outside.specs.Shelf.{Files, held, ReadsAt, Puts, PutsInPart};
-ghost use Rattle.outside.specs.Faults.{counted};
 
 use crate::failed::Failed;
 use crate::shelf::Shelf;

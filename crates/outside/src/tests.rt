@@ -33,8 +33,8 @@ fn chosen_calls_of_a_shelf_fail(rt: HostRuntime) -> Result<(), Fail> {
         (TEN, Ok(()), TEN),
     ];
     for (bytes, answer, held) in puts {
-        assert_eq!(rt; shelf.put("a", bytes), answer);
-        assert_eq!(rt; shelf.get("a"), Some(held));
+        assert!(rt; shelf.put("a", bytes) == answer);
+        assert!(rt; shelf.get("a") == Some(held));
     }
     let reads = [
         ("a", 0, Ok(4)),
@@ -46,7 +46,10 @@ fn chosen_calls_of_a_shelf_fail(rt: HostRuntime) -> Result<(), Fail> {
     ];
     let mut buf = [0; 6];
     for (name, at, answer) in reads {
-        assert_eq!(rt; shelf.read_at(name, at, &mut buf), answer, "{name} at {at}");
+        assert!(rt;
+            shelf.read_at(name, at, &mut buf) == answer,
+            "{name} at {at}"
+        );
     }
     assert_eq!(rt; buf, *b"8923\0\0");
     Ok(())
@@ -61,7 +64,7 @@ fn chosen_says_fail(rt: HostRuntime) -> Result<(), Fail> {
         ("two ", Err(Failed::Fault)),
         ("three", Ok(())),
     ] {
-        assert_eq!(rt; said.say(text.as_bytes()), answer);
+        assert!(rt; said.say(text.as_bytes()) == answer);
     }
     assert_eq!(rt; said.bytes(), b"one three".as_slice());
     Ok(())
@@ -85,17 +88,13 @@ fn real_files_are_put_and_read(rt: HostRuntime) -> Result<(), Fail> {
     fs::create_dir(&rt, FOLDER)?;
     let mut shelf = HostShelf::new(&rt);
     for bytes in [vec![in alloc; 7; 40_000]?, Vec::from_slice(alloc, TEN)?] {
-        assert_eq!(rt; shelf.put(NAME, bytes.as_slice()), Ok(()));
-        assert_eq!(rt; read_front(alloc, &mut shelf, NAME, 50_000)?, bytes);
+        shelf.put(NAME, bytes.as_slice())?;
+        assert!(rt; read_front(alloc, &mut shelf, NAME, 50_000)? == bytes);
     }
     let mut buf = [0; 4];
     for name in [FOLDER, "outside_test_files/none/a", "", "a\0b"] {
-        assert_eq!(rt;
-            shelf.read_at(name, 0, &mut buf),
-            Err(Failed::Fault),
-            "read {name}"
-        );
-        assert_eq!(rt; shelf.put(name, TEN), Err(Failed::Fault), "put {name}");
+        assert!(rt; shelf.read_at(name, 0, &mut buf).is_err());
+        assert!(rt; shelf.put(name, TEN).is_err());
     }
     fs::remove_dir_all(&rt, FOLDER)?;
     Ok(())
@@ -105,14 +104,10 @@ fn real_files_are_put_and_read(rt: HostRuntime) -> Result<(), Fail> {
 fn a_real_output_is_told_all(rt: HostRuntime) -> Result<(), Fail> {
     const NAME: &str = "outside_test_said";
     let mut said = HostSaid::new(File::create(&rt, NAME)?);
-    for text in ["one ", "two"] {
-        assert_eq!(rt; said.say(text.as_bytes()), Ok(()));
-    }
-    assert_eq!(rt; fs::read_to_string(&rt, NAME)?.as_str(), "one two");
-    assert_eq!(rt;
-        HostSaid::new(File::open(&rt, NAME)?).say(b"three"),
-        Err(Failed::Fault)
-    );
+    said.say(b"one ")?;
+    said.say(b"two")?;
+    assert!(rt; fs::read_to_string(&rt, NAME)?.as_str() == "one two");
+    assert!(rt; HostSaid::new(File::open(&rt, NAME)?).say(b"three").is_err());
     fs::remove_file(&rt, NAME)?;
     Ok(())
 }
