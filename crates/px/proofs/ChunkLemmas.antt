@@ -1,14 +1,14 @@
 -- rows that were painted side by side
-use Rattle.std.proofs.Common.{◌≡◌, ℕ, ◌+◌, ◌-◌, ◌*◌, ◌/◌, ◌%◌, ◌<◌, ◌≤◌, List, length, take, drop, get_or, slice_index, sym, ap, ◌∙◌, ⊎_elim, arith}
+use Rattle.std.proofs.Common.{◌≡◌, ℕ, ◌+◌, ◌*◌, ◌/◌, ◌%◌, ◌<◌, ◌≤◌, List, length, take, drop, slice_index, ◌∙◌, ⊎_elim, arith}
 use Rattle.std.proofs.lemmas.List.{get_or_past}
 use Rattle.std.proofs.lemmas.Bool.{cases_lt}
 use Rattle.std.proofs.lemmas.List.{get_or-take, get_or-drop}
 use Rattle.std.proofs.lemmas.Nat.{div_below, mod_below}
-use Rattle.px.specs.Painted.{IsGiven, IsRow, AreRows}
+use Rattle.px.specs.Painted.{IsRow, AreRows}
 use Rattle.px.proofs.RowLemmas.{given_along, value_fits, place_in_row}
 
 -- a value of a chunk is that value of the whole
-in_chunk : (n from : ℕ) (xs : List ℕ) (i : ℕ) → i < n → slice_index (take n (drop from xs)) i ≡ slice_index xs (from + i)
+pub in_chunk : (n from : ℕ) (xs : List ℕ) (i : ℕ) → i < n → slice_index (take n (drop from xs)) i ≡ slice_index xs (from + i)
 in_chunk n from xs i h = get_or-take n (drop from xs) i 0 h ∙ get_or-drop from xs i 0
 
 -- what bounds each value bounds each value of a part

@@ -2,3 +2,4 @@ pub mod RowLemmas
 pub mod ChunkLemmas
 pub mod PaintedLemmas
 pub mod SampleLemmas
+pub mod EditLemmas

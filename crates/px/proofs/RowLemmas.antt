@@ -1,5 +1,5 @@
 -- rows of pixels, as far as they are painted
-use Rattle.std.proofs.Common.{◌≡◌, ◌≢◌, ℕ, zero, suc, ◌+◌, ◌-◌, ◌*◌, ◌<◌, ◌≤◌, List, length, get_or, set, slice_index, sym, ap, ◌∙◌, subst, inl, inr, ⊎_elim, refl, arith, rules}
+use Rattle.std.proofs.Common.{◌≡◌, ◌≢◌, ℕ, zero, suc, ◌+◌, ◌-◌, ◌*◌, ◌<◌, ◌≤◌, List, length, set, slice_index, sym, ap, ◌∙◌, ⊎_elim, arith, rules}
 use Rattle.std.proofs.Common.{get_or-set_other, get_or-set_same}
 use Rattle.std.proofs.Math.ListN.{length-set}
 use Rattle.std.proofs.lemmas.Nat.{mul-add-lt}
@@ -52,7 +52,7 @@ adds_one k row answer fits = record {
 pub given_along : (post : List ℕ → Type 0) (size : ℕ) (f f' : ℕ → ℕ) → ((c : ℕ) → c < size → f c ≡ f' c) → IsGiven post size f → IsGiven post size f'
 given_along post size f f' e r = record { answer = r.answer; given = r.given; same = λ c h. r.same c h ∙ e c h }
 
-top_within : (row answer : List ℕ) (i n c : ℕ) → i ≡ n + c → slice_index row (n + c) ≡ slice_index answer c → slice_index answer c ≤ 1048575 → slice_index row i ≤ 1048575
+pub top_within : (row answer : List ℕ) (i n c : ℕ) → i ≡ n + c → slice_index row (n + c) ≡ slice_index answer c → slice_index answer c ≤ 1048575 → slice_index row i ≤ 1048575
 top_within row answer i n c e same h = rw (e, same) h
 
 pub row_more : (post : ℕ → ℕ → List ℕ → Type 0) (x y size k : ℕ) (row answer row' : List ℕ)

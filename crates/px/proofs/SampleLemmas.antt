@@ -1,11 +1,11 @@
 -- the values of a whole picture, row by row
-use Rattle.std.proofs.Common.{◌≡◌, ℕ, ◌+◌, ◌-◌, ◌*◌, ◌/◌, ◌%◌, ◌<◌, ◌≤◌, List, length, slice_index, get_or, refl, sym, ap, ◌∙◌, subst, arith}
+use Rattle.std.proofs.Common.{◌≡◌, ℕ, ◌+◌, ◌-◌, ◌*◌, ◌/◌, ◌%◌, ◌<◌, List, length, slice_index, refl, sym, ap, ◌∙◌, arith}
 use Rattle.std.proofs.lemmas.List.FromFn.{fill_by_all}
 use Rattle.std.proofs.lemmas.Nat.{div_below, mod_below}
 use Rattle.px.specs.declared.kind.PlaneKind.TheVariants.{Rgb}
-use Rattle.px.specs.Area.{HasPixel, whole_of}
+use Rattle.px.specs.Area.{HasPixel}
 use Rattle.px.specs.Kind.{channels}
-use Rattle.px.specs.Cut.{Cut, IsPlane, IsCutOf, IsWhole, place, value_at}
+use Rattle.px.specs.Cut.{Cut, IsPlane, IsCutOf, IsWhole, place}
 use Rattle.px.specs.Picture.{Picture, samples_of}
 
 -- the place of a value, and the pixel and the channel of a place

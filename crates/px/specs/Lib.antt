@@ -5,4 +5,5 @@ pub mod Number
 pub mod Painted
 pub mod Picture
 pub mod PlaneFields
+pub mod Repainted
 pub mod Rows

@@ -1,5 +1,5 @@
 -- pictures
-use Rattle.std.specs.Prelude.{ℕ, ◌+◌, ◌*◌, ◌/◌, ◌%◌, List, [], ◌∷◌, map}
+use Rattle.std.specs.Prelude.{ℕ, ◌*◌, ◌/◌, ◌%◌, List, [], ◌∷◌, map}
 use Rattle.std.specs.List.{range_with_len}
 use Rattle.px.specs.declared.kind.PlaneKind.{PlaneKind}
 use Rattle.px.specs.declared.kind.PlaneKind.TheVariants.{Mosaic, Rgb}

@@ -6,6 +6,7 @@
 #![tactic(auto)]
 
 mod depth;
+mod editing;
 mod kind;
 mod number;
 mod painting;
@@ -16,6 +17,7 @@ mod row_painter;
 mod tests;
 
 pub use depth::Depth;
+pub use editing::repaint;
 pub use kind::{Cfa, Colour, PlaneKind};
 pub use number::{clamp_top, mul_floor};
 pub use painting::{paint, paint_in_turn};

@@ -13,12 +13,12 @@ use std::thread::Threads;
 
 // The rows of a region, with `size` values a pixel.
 #[derive(Clone, Copy)]
-struct Rows {
-    x: u32,
-    y: u32,
-    w: u32,
-    h: u32,
-    size: usize,
+pub(crate) struct Rows {
+    pub(crate) x: u32,
+    pub(crate) y: u32,
+    pub(crate) w: u32,
+    pub(crate) h: u32,
+    pub(crate) size: usize,
 }
 
 // Fills rows one after another.
@@ -97,7 +97,7 @@ fn fill_side_by_side<R: Threads + Sync, P: RowPainter + Sync>(
 }
 
 // The rows of a region.
-fn rows_of(region: Region, size: usize) -> Rows
+pub(crate) fn rows_of(region: Region, size: usize) -> Rows
     ensures rows { result ≡ record { x = region.x; y = region.y; w = region.w; h = region.h; size = size } }
     ensures valid { Fits region.x region.y region.w region.h }
 {

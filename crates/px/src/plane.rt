@@ -75,6 +75,14 @@ impl Plane {
         self.values.as_slice()
     }
 
+    /// The values, row by row, in place of the plane. Takes no memory.
+    pub(crate) fn into_values(self) -> Vec<u32>
+        ensures values { result.items ≡ self.values }
+        ensures valid { IsPlane self }
+    {
+        self.values
+    }
+
     // Where the values of the pixel in column `x` and row `y` begin, at so many values a pixel.
     fn place(&self, x: u32, y: u32, size: usize) -> usize
         requires size { size ≡ channels self.now.kind }

@@ -1,6 +1,6 @@
-use crate::{
-    ByPixel, ByValue, Cfa, Plane, PlaneKind, Region, clamp_top, mul_floor, paint, paint_in_turn,
-};
+ghost use Rattle.std.specs.Prelude.{ℕ, ◌≤◌, slice_index};
+
+use crate::{ByValue, Cfa, Plane, PlaneKind, Region, clamp_top, mul_floor, paint_in_turn, repaint};
 use std::test::Fail;
 
 #[test]
@@ -32,28 +32,28 @@ fn products_are_rounded_down(rt: HostRuntime) {
 }
 
 #[test]
-fn a_painted_pixel_is_what_its_closure_gives(rt: HostRuntime) -> Result<(), Fail> {
-    let region = Region::new(1, 2, 2, 1).ok_or("a region")?;
-    let pixel = |x: u32, y: u32| [x, y, 7];
-    let plane = paint(
-        &rt,
-        rt.alloc(),
-        PlaneKind::Rgb,
-        3,
-        4,
-        region,
-        &ByPixel { pixel },
-    )?;
-    assert_eq!(rt; plane.values(), [1, 2, 7, 2, 2, 7].as_slice());
-    Ok(())
-}
-
-#[test]
 fn a_mosaic_has_one_value_a_pixel(rt: HostRuntime) -> Result<(), Fail> {
     let region = Region::new(0, 1, 2, 2).ok_or("a region")?;
     let value = |x: u32, y: u32| x ^ y;
     let kind = PlaneKind::Mosaic(Cfa::Rggb);
     let plane = paint_in_turn(rt.alloc(), kind, 2, 3, region, &ByValue { value })?;
     assert_eq!(rt; plane.values(), [1, 0, 2, 3].as_slice());
+    Ok(())
+}
+
+#[test]
+fn a_repainted_plane_has_what_its_closure_gives(rt: HostRuntime) -> Result<(), Fail> {
+    let whole = Region::whole(1, 2);
+    let plane = Plane::from_rows(
+        PlaneKind::Rgb,
+        1,
+        2,
+        whole,
+        vec![in rt.alloc(); 1, 2, 3, 4, 5, 6]?,
+    );
+    let new = |_x: u32, _y: u32, _old: [u32; 3]| -> [u32; 3]
+        ensures { (i : ℕ) → slice_index result i ≤ 1048575 }
+    { [7, 8, 9] };
+    assert!(rt; repaint(plane, &new).values() == [7, 8, 9, 7, 8, 9].as_slice());
     Ok(())
 }

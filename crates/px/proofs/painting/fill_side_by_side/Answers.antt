@@ -1,4 +1,4 @@
-use Rattle.std.proofs.Common.{◌≡◌, ◌*◌, ◌+◌, ◌/◌, ◌<◌, ◌≤◌, ap, refl, sym, ◌∙◌, length, arith}
+use Rattle.std.proofs.Common.{◌≡◌, ◌*◌, ◌+◌, ◌/◌, ◌<◌, refl, ◌∙◌, length, arith}
 use Rattle.std.proofs.Math.Nat.{mul-mod_left, mul-div_cancel, mul-lt-mul_of_pos_right, mul_assoc}
 use Rattle.std.proofs.lemmas.Nat.{div_below}
 use Rattle.px.specs.Painted.{IsRow}

@@ -1,4 +1,4 @@
-use Rattle.std.proofs.Common.{◌≡◌, length, vec_len, ap, ◌∙◌, arith}
+use Rattle.std.proofs.Common.{ap, ◌∙◌, arith}
 use Rattle.px.proofs.PaintedLemmas.{painted_of_rows}
 use Rattle.px.proofs.painting.paint.Goals as goal
 
