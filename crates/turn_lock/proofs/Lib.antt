@@ -1,0 +1,3 @@
+pub mod Stories
+pub mod Changed
+pub mod Turns

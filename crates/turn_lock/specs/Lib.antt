@@ -1,0 +1,4 @@
+pub mod Story
+pub mod Known
+pub mod Rule
+pub mod Steps
