@@ -1,3 +1,4 @@
 pub mod Stories
 pub mod Changed
 pub mod Turns
+pub mod Joins

@@ -4,7 +4,6 @@ use Rattle.std.proofs.lemmas.List.{append-nil}
 use Rattle.std.proofs.lemmas.List.Elements.{filter-append}
 use Rattle.std.proofs.Math.Seq.{drop-append_seam}
 use Rattle.turn_lock.specs.Story.{StartsWith, borne, added, AllBear}
-use Rattle.turn_lock.specs.Steps.{longer}
 
 module _ {E : Type 0} where
   pub starts_self : (xs : List E) → StartsWith xs xs
@@ -12,9 +11,6 @@ module _ {E : Type 0} where
 
   pub starts_trans : (xs ys zs : List E) → StartsWith ys xs → StartsWith zs ys → StartsWith zs xs
   starts_trans xs ys zs p q = (p.0 ++ q.0, q.1 ∙ (ap (λ l. l ++ q.0) p.1 ∙ append_assoc xs p.0 q.0))
-
-  pub longer_starts : (zs xs ys : List E) → StartsWith zs xs → StartsWith zs ys → StartsWith zs (longer xs ys)
-  longer_starts zs xs ys p q = elim (nat_lt (length xs) (length ys)) as (λ b. StartsWith zs (cond b ys xs)) [ true ↦ q | false ↦ p ]
 
   -- what was added, of a story that was made longer
   pub added_is : (before after more : List E) → after ≡ before ++ more → added before after ≡ more

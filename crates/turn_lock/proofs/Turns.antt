@@ -229,6 +229,7 @@ module _ {T N E : Type 0} (name_of : T → N) (story_of : T → List E) (bearer 
       let homes' : Homes T = set s.homes 0 (some (Some x)) in
       let full : homes' ≡ some (Some x) ∷ [] = ap (λ h. set h 0 (some (Some x))) o.1 in
       let called_is : name_of x ≡ called = some_same refl (named ∙ f.name) in
+      let after : T → Me (Option T) (View N E) = λ z. (record v { seen = story_of z; own = v.own ++ added v.seen (story_of z); ticket = None; out = false; past = get_or s.words 1 0 + 1 }, []) in
       let Goal : List (ℕ × Option T) → Type 0 = λ c. (u : View N E) × (a : Act (Option T)) × Valid s.homes c a × Ru (stepped s 1 ((get_or s.words 1 0 + 1) % 2 ^ 64) id c u a) × Served story_of (step slots 1 1 0 none) (me.0, c) (get_or s.words 1 0) (u, carried_after c a) in
       subst Goal (sym holds_x) (
         w,
@@ -253,5 +254,5 @@ module _ {T N E : Type 0} (name_of : T → N) (story_of : T → List E) (bearer 
         (λ q from below. tickets_set s.views id v w q at live (λ has. let e : m.serving ≡ q = some_same o.0 has in absurd (omega arith)) (r.every q (omega arith) below))
         (λ n long. let inside = below_length s.views id v at in borne_kept bearer id n m.story (story_of x) (λ is. omega arith) starts' bear' ∙ r.nobody n long)
         (inl (Some x, full, (λ _. (x, refl, (called_is, refl, marked ∙ o.3))), λ zero_is. absurd (omega arith))),
-        λ y same. let e : x ≡ y = value_same x y same in subst (λ (z : T). (w, []) ≡ (record v { seen = story_of z; own = v.own ++ added v.seen (story_of z); ticket = None; out = false; past = get_or s.words 1 0 + 1 }, [])) e refl,
+        λ y same. ap after (value_same x y same),
       )

@@ -1,18 +1,13 @@
 -- What each step tells the seat that makes it.
-use Rattle.std.specs.Prelude.{◌≡◌, ◌≢◌, ℕ, zero, suc, ◌+◌, ◌<◌, ◌≤◌, max, Bool, true, false, cond, nat_lt, List, [], ◌∷◌, ◌++◌, length, Option, Some, None}
+use Rattle.std.specs.Prelude.{◌≡◌, ◌≢◌, ℕ, zero, suc, ◌+◌, ◌<◌, ◌≤◌, Bool, true, false, List, [], ◌∷◌, ◌++◌, Option, Some, None}
 use Rattle.atomic_table.specs.Table.{Me, Step}
 use Rattle.turn_lock.specs.declared.view.View.{View}
 use Rattle.turn_lock.specs.Story.{StartsWith, borne, added}
-use Rattle.turn_lock.specs.Rule.{spent}
 
 -- the turn that makes the lock isn't counted
 abbrev pub turns_after : ℕ → ℕ → ℕ
 turns_after zero turns = turns
 turns_after (suc past) turns = turns + 1
-
--- the longer of two stories, of which one begins the other
-abbrev pub longer : {E : Type 0} → List E → List E → List E
-longer xs ys = cond (nat_lt (length xs) (length ys)) ys xs
 
 module _ {N E : Type 0} where
   -- the first seat counts one more
@@ -23,9 +18,9 @@ module _ {N E : Type 0} where
   abbrev pub dealt : View N E → View N E
   dealt v = record v { number = v.count; own = []; turns = 0; loads = 0; loaded = 0; ticket = None; out = false; count = 0; kept = [] }
 
-  -- a seat that has taken in another
+  -- a seat that has taken in another: it keeps the other's number, and what that one had seen and added, beside its own
   abbrev pub joined : View N E → View N E → View N E
-  joined v w = record v { seen = longer v.seen w.seen; mark = max v.mark w.mark; kept = (w.number, (w.seen, w.own)) ∷ v.kept }
+  joined v w = record v { kept = (w.number, (w.seen, w.own)) ∷ v.kept }
 
   module _ {T : Type 0} where
     -- the seat has drawn the ticket, or nothing changed
