@@ -140,14 +140,15 @@ module _ {T N E : Type 0} (name_of : T → N) (story_of : T → List E) (bearer 
       )))
 
   -- the seat whose turn is out raises the mark
-  pub raises : (slots id k : ℕ) (me : Me (Option T) (View N E)) → me.0.live ≡ true → me.0.out ≡ true → me.0.mark ≤ k → me.0.name ≡ Some called → k ≤ most called
+  pub raises : (slots id k : ℕ) (me : Me (Option T) (View N E)) (name : N) → me.0.live ≡ true → me.0.out ≡ true → me.0.mark ≤ k → Some name ≡ me.0.name → k ≤ most name
       → Allows Ru slots id me 2 (λ n. max n k) (Raised (step slots 2 k 0 none) me)
-  raises slots id k me live is_out rises named top s r deep at big =
+  raises slots id k me name live is_out rises named below s r deep at big =
       let m = r.moment in
       let v = me.0 in
       let f = r.each id v at live in
       let o = f.out is_out in
       let found : get_or s.words 2 0 ≡ m.marked = ap (λ ws. get_or ws 2 0) r.words in
+      let top : k ≤ most called = subst (λ n. k ≤ most n) (some_same refl (named ∙ f.name)) below in
       let raised : max (get_or s.words 2 0) k ≡ k = omega (arith, found, o.3, rises) in
       let w : View N E = record v { mark = k } in
       let m' : Moment E = record m { marked = k } in (

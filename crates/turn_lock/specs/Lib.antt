@@ -2,3 +2,5 @@ pub mod Story
 pub mod Known
 pub mod Rule
 pub mod Steps
+pub mod Passes
+pub mod Turned

@@ -1,8 +1,14 @@
 //! A lock whose value carries a story.
 #![tactic(auto)]
 
+mod board;
+mod pass;
 mod plays;
+mod steps;
 mod told;
+mod turn;
 mod view;
 
+pub use pass::Pass;
 pub use told::Told;
+pub use turn::Turn;
