@@ -2,3 +2,4 @@ pub mod Stories
 pub mod Changed
 pub mod Turns
 pub mod Joins
+pub mod Dealing

@@ -4,10 +4,19 @@ use crate::plays::Order;
 use crate::told::Told;
 use crate::view::View;
 use atomic_table::{Seat, Shared};
+use std::alloc::Global;
 
 pub(crate) type Place<T> = Seat<Option<T>, View<<T as Told>::Name, <T as Told>::Entry>>;
 
 pub(crate) type Board<T> = Shared<Option<T>, View<<T as Told>::Name, <T as Told>::Entry>, T, Order>;
+
+pub(crate) type Table<T> = atomic_table::Table<
+    Option<T>,
+    View<<T as Told>::Name, <T as Told>::Entry>,
+    T,
+    Order,
+    Global,
+>;
 
 pub(crate) const TICKETS: usize = 0;
 

@@ -2,6 +2,8 @@
 #![tactic(auto)]
 
 mod board;
+mod deal;
+mod lock;
 mod pass;
 mod plays;
 mod steps;
@@ -9,6 +11,7 @@ mod told;
 mod turn;
 mod view;
 
+pub use lock::TurnLock;
 pub use pass::Pass;
 pub use told::Told;
 pub use turn::Turn;

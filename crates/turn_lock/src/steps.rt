@@ -2,7 +2,7 @@
 ghost use Rattle.std.specs.Prelude.{◌≡◌, ℕ, ◌+◌, ◌≤◌, ◌<◌, true, false, [], ◌∷◌, ◌++◌, Some, None};
 ghost use Rattle.turn_lock.specs.Story.{StartsWith, added, AllBear};
 ghost use Rattle.turn_lock.specs.Steps.{Came};
-ghost use Rattle.turn_lock.specs.Passes.{IsSized, IsWaiting, IsTaken};
+ghost use Rattle.turn_lock.specs.Passes.{IsSized, HasSlot};
 
 use crate::board::{Board, Place, MARKED, SERVING, TICKETS};
 use crate::plays::{Draw, Look, Raise, Serve};
@@ -72,7 +72,8 @@ fn sleep<T: Told, R: Wait>(rt: &R, board: &Board<T>, sleepers: &AtomicU64, servi
 // The value goes back, the mark is raised to its own, and the next ticket is served.
 pub(crate) fn serve<T: Told>(board: &Board<T>, seat: &mut Place<T>, value: T)
     requires table { (seat.old.table_id ≡ board.now.table_id) × IsSized board.now.table_id }
-    requires taken { (seat.old.me.0.live ≡ true) × IsTaken seat.old.me }
+    requires out { (seat.old.me.0.live ≡ true) × (seat.old.me.0.out ≡ true) }
+    requires slot { HasSlot seat.old.me }
     requires name { Some (T.name value) ≡ seat.old.me.0.name }
     requires story { StartsWith (T.story value) seat.old.me.0.seen }
     requires own { AllBear T.bearer seat.old.me.0.number (added seat.old.me.0.seen (T.story value)) }
