@@ -10,6 +10,7 @@ use Rattle.turn_lock.specs.declared.view.View.{View}
 use Rattle.turn_lock.specs.Story.{StartsWith, borne}
 use Rattle.turn_lock.specs.Rule.{Moment, opener, spent, Homes, Joined, HadFits, AllHad, HasTicket, IsValue, AtHome, IsOut, Kept, Fits}
 use Rattle.turn_lock.specs.Steps.{dealer, dealt, joined}
+use Rattle.turn_lock.specs.Ending.{Has, IsLast, HasAll, IsLeft}
 use Rattle.turn_lock.proofs.Stories.{starts_self, nothing_added}
 use Rattle.turn_lock.proofs.Changed.{below_length, same_at, not_spent, tickets_set, had_changed, out_set, Fit}
 
@@ -235,50 +236,39 @@ module _ {T N E : Type 0} (name_of : T → N) (story_of : T → List E) (bearer 
             r.place;
       }
 
-  -- the entry stands in the list
-  abbrev pub Has : Joined E → List (Joined E) → Type 0
-  Has x [] = ⊥
-  Has x (k ∷ ks) = (x ≡ k) ⊎ Has x ks
-
   had_one : (story : List E) (views : List (View N E)) (x : Joined E) (ks : List (Joined E)) → AllHad bearer story views ks → Has x ks → HadFits bearer story views x
   had_one story views x [] h there = absurd there
   had_one story views x (k ∷ ks) h there = ⊎_elim (λ (e : x ≡ k). subst (HadFits bearer story views) (sym e) h.0) (λ rest. had_one story views x ks h.1 rest) there
 
-  -- the value at the end, where the first seat has joined all others
-  pub record Ended (v : View N E) (slots : List (Option T)) : Type 0 where
-    pub value : T
-    pub at : get_elem? slots 0 ≡ some (Some value)
-    pub name : name_of value ≡ called
-    pub seen : StartsWith (story_of value) v.seen
-    pub own : borne bearer 0 (story_of value) ≡ v.own
-    pub kept : (x : Joined E) → Has x v.kept → StartsWith (story_of value) x.1.0 × (borne bearer x.0 (story_of value) ≡ x.1.1)
-    pub others : (n : ℕ) → v.count ≤ n → borne bearer n (story_of value) ≡ []
-
-  pub ends : (id : ℕ) (v : View N E) (words : List ℕ) (slots : List (Option T)) → v.live ≡ true → v.number ≡ 0 → v.out ≡ false → 0 < v.past
-      → ((n : ℕ) → 0 < n → n < v.count → (x : Joined E) × (x.0 ≡ n) × Has x v.kept) → Final (Seen Ru id v) words slots → Ended v slots
-  ends id v words slots live zero_is idle some_past all fin =
+  pub ends : (id : ℕ) (v : View N E) (carried : List (ℕ × Option T)) (words : List ℕ) (slots : List (Option T)) → IsLast (v, carried) → HasAll v → Final (Seen Ru id v) words slots
+      → (x : T) × (get_elem? slots 0 ≡ some (Some x)) × IsLeft name_of story_of bearer called v x
+  ends id v carried words slots last all fin =
+      let live = last.live in
       let s = fin.0 in
       let r = fin.1.0 in
       let at = fin.1.1 in
       let m = r.moment in
       let f = r.each id v at live in
-      let first : id ≡ 0 = sym f.number ∙ zero_is in
+      let first : id ≡ 0 = sym f.number ∙ last.numbered in
       let at_0 : get_elem? s.views 0 ≡ some v = subst (λ i. get_elem? s.views i ≡ some v) first at in
       let counted = r.count v at_0 live in
       let past = f.past in
+      let some_past = last.past in
       let home : AtHome name_of story_of bearer mark_of most called m s.homes = ⊎_elim (λ h. h)
           (λ (o : IsOut s.homes s.views). absurd (dite (ℕ_discrete o.0 0)
-            (λ is. let e : v ≡ o.1 = same_at s.views 0 v o.1 at_0 (subst (λ i. get_elem? s.views i ≡ some o.1) is o.3) in let b : false ≡ true = sym idle ∙ (ap (λ (x : View N E). x.out) e ∙ o.5) in cc)
+            (λ is. let e : v ≡ o.1 = same_at s.views 0 v o.1 at_0 (subst (λ i. get_elem? s.views i ≡ some o.1) is o.3) in let b : false ≡ true = sym last.out ∙ (ap (λ (x : View N E). x.out) e ∙ o.5) in cc)
             (λ no. let inside = below_length s.views o.0 o.1 o.3 in let x = all o.0 (omega arith) (omega arith) in
               let gone = (had_one m.story s.views x.0 v.kept f.kept x.2).2 in not_spent s.views o.0 x.0.0 o.1 o.3 o.4 gone x.1)))
           r.place in
       let x = home.2 (omega arith) in
-      let is : m.story ≡ story_of x.0 = sym x.2.1 in record {
-        value = x.0;
-        at = fin.4 0 (Some x.0) (ap (λ h. get_elem? h 0) home.1 ∙ ap (λ (y : Option T). some (some y)) x.1);
-        name = x.2.0;
-        seen = subst (λ st. StartsWith st v.seen) is f.seen;
-        own = subst (λ st. borne bearer 0 st ≡ v.own) is (ap (λ n. borne bearer n m.story) (sym first) ∙ f.own);
-        kept = λ k there. let h = had_one m.story s.views k v.kept f.kept there in subst (λ st. StartsWith st k.1.0 × (borne bearer k.0 st ≡ k.1.1)) is (h.0, h.1);
-        others = λ n above. subst (λ st. borne bearer n st ≡ []) is (r.nobody n (omega arith));
-      }
+      let is : m.story ≡ story_of x.0 = sym x.2.1 in (
+        x.0,
+        fin.4 0 (Some x.0) (ap (λ h. get_elem? h 0) home.1 ∙ ap (λ (y : Option T). some (some y)) x.1),
+        record {
+          name = x.2.0;
+          seen = subst (λ st. StartsWith st v.seen) is f.seen;
+          own = subst (λ st. borne bearer 0 st ≡ v.own) is (ap (λ n. borne bearer n m.story) (sym first) ∙ f.own);
+          kept = λ k there. let h = had_one m.story s.views k v.kept f.kept there in subst (λ st. StartsWith st k.1.0 × (borne bearer k.0 st ≡ k.1.1)) is (h.0, h.1);
+          others = λ n above. subst (λ st. borne bearer n st ≡ []) is (r.nobody n (omega arith));
+        },
+      )

@@ -3,3 +3,4 @@ pub mod Changed
 pub mod Turns
 pub mod Joins
 pub mod Dealing
+pub mod Gathering

@@ -2,6 +2,7 @@
 #![tactic(auto)]
 
 mod board;
+mod close;
 mod deal;
 mod lock;
 mod pass;

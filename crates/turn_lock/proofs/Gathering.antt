@@ -1,0 +1,65 @@
+-- A list of which one element is taken out, and the entries of joined passes.
+use Rattle.std.proofs.Common.{◌≡◌, ◌≢◌, ◌⊎◌, ⊎_elim, inl, inr, ℕ, ◌+◌, ◌<◌, List, [], ◌∷◌, ◌++◌, map, length, get_or, remove, zero, suc, refl, sym, ap, ◌∙◌, subst, arith, Contains, IsPermutation, append_assoc, Option, Some}
+use mathlib.Core.Option.{some, some-injective}
+use lib.ListN.{get_elem?}
+use Rattle.std.proofs.lemmas.List.{map-append}
+use Rattle.std.proofs.lemmas.List.Elements.{Contains-append_cases, Contains-append_right}
+use Rattle.std.proofs.lemmas.List.Sorted.{IsPermutation-remove, IsPermutation-sym, Contains-permutation}
+use Rattle.atomic_table.specs.Table.{Me}
+use Rattle.turn_lock.specs.declared.view.View.{View}
+use Rattle.turn_lock.specs.Known.{Known}
+use Rattle.turn_lock.specs.Rule.{Joined}
+use Rattle.turn_lock.specs.Steps.{joined}
+use Rattle.turn_lock.specs.Ending.{joined_of, Has}
+
+only_one : {A : Type 0} (x p : A) → Contains (x ∷ []) p → x ≡ p
+only_one x p (zero, inside, e) = e
+only_one x p (suc k, inside, e) = absurd (omega arith)
+
+module _ {A : Type 0} (xs ys : List A) (i : ℕ) (x : A) (inside : i < length xs) (is : x ≡ get_or xs i x) (rest : ys ≡ remove xs i) where
+  moved : IsPermutation xs (x ∷ ys)
+  moved = subst (λ (l : List A). IsPermutation xs (x ∷ l)) (sym rest) (IsPermutation-remove xs i x inside is)
+
+  -- each element is the one that was taken out, or is still there
+  pub taken_or_left : (p : A) → Contains xs p → (x ≡ p) ⊎ Contains ys p
+  taken_or_left p there = ⊎_elim (λ h. inl (only_one x p h)) (λ h. inr h) (Contains-append_cases (x ∷ []) ys p (Contains-permutation xs (x ∷ ys) p moved there))
+
+  -- and what is still there was there before
+  pub was_there : (p : A) → Contains ys p → Contains xs p
+  was_there p left = Contains-permutation (x ∷ ys) xs p (IsPermutation-sym xs (x ∷ ys) moved) (Contains-append_right (x ∷ []) ys p left)
+
+module _ {E : Type 0} where
+  has_left : (x : Joined E) (ks js : List (Joined E)) → Has x ks → Has x (ks ++ js)
+  has_left x [] js h = absurd h
+  has_left x (k ∷ ks) js h = ⊎_elim (λ e. inl e) (λ r. inr (has_left x ks js r)) h
+
+module _ {N E : Type 0} where
+  has_map : (p : Known N E) (ps : List (Known N E)) (k : ℕ) → k < length ps → get_or ps k p ≡ p → Has (joined_of p) (map joined_of ps)
+  has_map p [] k inside e = absurd (omega arith)
+  has_map p (q ∷ qs) zero inside e = inl (ap joined_of (sym e))
+  has_map p (q ∷ qs) (suc k) inside e = inr (has_map p qs k (omega arith) e)
+
+  -- a pass that was joined has its entry
+  pub has_joined : (p : Known N E) (ps : List (Known N E)) (js : List (Joined E)) → Contains ps p → Has (joined_of p) (map joined_of ps ++ js)
+  has_joined p ps js there = has_left (joined_of p) (map joined_of ps) js (has_map p ps there.0 there.1 there.2)
+
+  -- one pass less to join, one entry more
+  pub kept_more : (ps qs : List (Known N E)) (p : Known N E) (js after whole : List (Joined E)) → ps ≡ qs ++ p ∷ [] → map joined_of ps ++ js ≡ whole → after ≡ joined_of p ∷ js → map joined_of qs ++ after ≡ whole
+  kept_more ps qs p js after whole split so_far more =
+      ap (λ j. map joined_of qs ++ j) more
+      ∙ (sym (append_assoc (map joined_of qs) (joined_of p ∷ []) js)
+      ∙ (ap (λ l. l ++ js) (sym (map-append joined_of qs (p ∷ [])))
+      ∙ (ap (λ l. map joined_of l ++ js) (sym split) ∙ so_far)))
+
+  pub seat_more : {T : Type 0} (first before after : Me (Option T) (View N E)) (w : View N E) → before ≡ (record first.0 { kept = before.0.kept }, first.1) → after ≡ (joined before.0 w, before.1)
+      → after ≡ (record first.0 { kept = after.0.kept }, first.1)
+  seat_more first before after w was step =
+      let full = step ∙ ap (λ m. (joined m.0 w, m.1)) was in
+      full ∙ (λ i. (record first.0 { kept = ap (λ m. m.0.kept) (sym full) i }, first.1))
+
+-- what the slot held is what was read of it
+pub slot_is : {A : Type 0} (slots : List (Option A)) (last : Option A) (x : A) → get_elem? slots 0 ≡ some last → get_elem? slots 0 ≡ some (Some x) → last ≡ Some x
+slot_is slots last x read held = some-injective last (Some x) (sym read ∙ held)
+
+pub some_is : {A : Type 0} (last : Option A) (x y : A) → last ≡ Some x → last ≡ Some y → x ≡ y
+some_is last x y p q = cc
