@@ -1,16 +1,17 @@
 -- A list of which one element is taken out, and the entries of joined passes.
-use Rattle.std.proofs.Common.{◌≡◌, ◌≢◌, ◌⊎◌, ⊎_elim, inl, inr, ℕ, ◌+◌, ◌<◌, List, [], ◌∷◌, ◌++◌, map, length, get_or, remove, zero, suc, refl, sym, ap, ◌∙◌, subst, arith, Contains, IsPermutation, append_assoc, Option, Some}
+use Rattle.std.proofs.Common.{◌≡◌, ◌≢◌, ◌⊎◌, ⊎_elim, inl, inr, ℕ, ◌+◌, ◌<◌, List, [], ◌∷◌, ◌++◌, map, length, get_or, remove, zero, suc, refl, sym, ap, ◌∙◌, subst, arith, Contains, IsPermutation, append_assoc, Option, Some, All}
 use mathlib.Core.Option.{some, some-injective}
 use lib.ListN.{get_elem?}
 use Rattle.std.proofs.lemmas.List.{map-append}
-use Rattle.std.proofs.lemmas.List.Elements.{Contains-append_cases, Contains-append_right}
+use Rattle.std.proofs.lemmas.List.Elements.{Contains-append_cases, Contains-append_right, Contains-get_or, All-contains}
 use Rattle.std.proofs.lemmas.List.Sorted.{IsPermutation-remove, IsPermutation-sym, Contains-permutation}
 use Rattle.atomic_table.specs.Table.{Me}
 use Rattle.turn_lock.specs.declared.view.View.{View}
 use Rattle.turn_lock.specs.Known.{Known}
 use Rattle.turn_lock.specs.Rule.{Joined}
+use Rattle.turn_lock.specs.Story.{StartsWith, borne}
 use Rattle.turn_lock.specs.Steps.{joined}
-use Rattle.turn_lock.specs.Ending.{joined_of, Has}
+use Rattle.turn_lock.specs.Ending.{joined_of, Has, HasAll, IsLeft}
 
 only_one : {A : Type 0} (x p : A) → Contains (x ∷ []) p → x ≡ p
 only_one x p (zero, inside, e) = e
@@ -63,3 +64,27 @@ slot_is slots last x read held = some-injective last (Some x) (sym read ∙ held
 
 pub some_is : {A : Type 0} (last : Option A) (x y : A) → last ≡ Some x → last ≡ Some y → x ≡ y
 some_is last x y p q = cc
+
+pub all_kept : {A : Type 0} (P : A → Type 0) (xs ys : List A) → ((p : A) → Contains ys p → Contains xs p) → All P xs → All P ys
+all_kept P xs ys was all = λ k d inside. All-contains P xs (get_or ys k d) all (was (get_or ys k d) (Contains-get_or ys k d inside))
+
+module _ {N E : Type 0} (ps qs : List (Known N E)) (first : Known N E) (v : View N E) (js : List (Joined E)) (zero_is : first.number ≡ 0) (kept : v.kept ≡ map joined_of qs ++ js)
+    (others : (p : Known N E) → Contains ps p → (first ≡ p) ⊎ Contains qs p) where
+  pub has_all : (seats : ℕ) → v.count ≡ seats → ((n : ℕ) → n < seats → (p : Known N E) × Contains ps p × (p.number ≡ n)) → HasAll v
+  has_all seats counted all n later below =
+      let p = all n (omega arith) in
+      let numbered = p.2 in
+      (joined_of p.0, numbered, ⊎_elim
+        (λ (e : first ≡ p.0). let same : first.number ≡ p.0.number = ap (λ (q : Known N E). q.number) e in absurd (omega arith))
+        (λ (there : Contains qs p.0). subst (Has (joined_of p.0)) (sym kept) (has_joined p.0 qs js there))
+        (others p.0 p.1))
+
+  pub all_left : {T : Type 0} (name_of : T → N) (story_of : T → List E) (bearer : E → ℕ) (called : N) (x : T) → IsLeft name_of story_of bearer called v x → v.seen ≡ first.seen → v.own ≡ first.own
+      → All (λ (p : Known N E). StartsWith (story_of x) p.seen × (borne bearer p.number (story_of x) ≡ p.own)) ps
+  all_left name_of story_of bearer called x left seen own k d inside =
+      let p = get_or ps k d in
+      let Said : Known N E → Type 0 = λ q. StartsWith (story_of x) q.seen × (borne bearer q.number (story_of x) ≡ q.own) in
+      ⊎_elim
+        (λ (e : first ≡ p). subst Said e (subst (StartsWith (story_of x)) seen left.seen, ap (λ n. borne bearer n (story_of x)) zero_is ∙ (left.own ∙ own)))
+        (λ (there : Contains qs p). left.kept (joined_of p) (subst (Has (joined_of p)) (sym kept) (has_joined p qs js there)))
+        (others p (Contains-get_or ps k d inside))

@@ -4,6 +4,7 @@ ghost use Rattle.turn_lock.specs.Story.{StartsWith, borne, added, AllBear};
 ghost use Rattle.turn_lock.specs.Known.{Known, fresh, IsIdle};
 
 use crate::board::{MARKED, SERVING, Table};
+use crate::close::{join_all, take_first, take_out};
 use crate::deal::{begin, deal};
 use crate::pass::Pass;
 use crate::plays::ReadsMark;
@@ -30,11 +31,12 @@ impl<T: Told> Model for TurnLock<T> {
 
     ghost Value = { Named T.Name };
 
+    ghost use Rattle.std.specs.Prelude.{◌<◌, ◌≤◌};
     ghost use Rattle.turn_lock.specs.Passes.{IsSized};
 
     ghost view = { λ l. record { id = record { table = l.table.shared.table_id; seats = l.seats }; name = T.name l.table.shared.key } };
 
-    ghost invariant = { λ l. IsSized l.table.shared.table_id };
+    ghost invariant = { λ l. IsSized l.table.shared.table_id × (0 < l.seats) × (l.seats ≤ 16) };
 }
 
 impl<T: Told> TurnLock<T> {
@@ -125,5 +127,27 @@ impl<T: Told> TurnLock<T> {
         self.table
             .shared
             .load::<ReadsMark>(&mut pass.seat, MARKED)
+    }
+
+    /// Ends the lock and gives its value. It wants all passes, none of which has a turn out.
+    pub fn close(self, mut passes: Vec<Pass<T>>) -> T
+        requires idle { All (IsIdle self.id) passes.items }
+        requires all { (n : ℕ) → n < self.id.seats → (p : Known T.Name T.Entry) × Contains passes.items p × (p.number ≡ n) }
+        ensures name { T.name result ≡ self.name }
+        ensures passes { All (λ (p : Known T.Name T.Entry). StartsWith (T.story result) p.seen × (borne T.bearer p.number (T.story result) ≡ p.own)) passes.items }
+        ensures others { (n : ℕ) → self.id.seats ≤ n → borne T.bearer n (T.story result) ≡ [] }
+    {
+        let TurnLock {
+            table,
+            seats,
+            sleepers: _,
+        } = self;
+        let Pass {
+            number: _,
+            seats: _,
+            mut seat,
+        } = take_first(&mut passes);
+        join_all(&table.shared, &mut seat, seats, passes);
+        take_out(table, seat)
     }
 }
