@@ -1,5 +1,8 @@
 -- A list of which one element is taken out, and the entries of joined passes.
-use Rattle.std.proofs.Common.{◌≡◌, ◌≢◌, ◌⊎◌, ⊎_elim, inl, inr, ℕ, ◌+◌, ◌<◌, List, [], ◌∷◌, ◌++◌, map, length, get_or, remove, zero, suc, refl, sym, ap, ◌∙◌, subst, arith, Contains, IsPermutation, append_assoc, Option, Some, All}
+use Rattle.std.proofs.Common.{◌≡◌, ◌≢◌, ◌⊎◌, ⊎_elim, inl, inr, ℕ, ◌+◌, ◌<◌, List, [], ◌∷◌, ◌++◌, map, length, get_or, remove, zero, suc, refl, sym, ap, ◌∙◌, subst, arith, Contains, IsPermutation, append_assoc, Option, Some, All, ◌≤◌}
+use mathlib.Core.Logic.{dite}
+use native.Mathlib.Decide.{ℕ_discrete}
+use Rattle.std.specs.List.{range_with_len}
 use mathlib.Core.Option.{some, some-injective}
 use lib.ListN.{get_elem?}
 use Rattle.std.proofs.lemmas.List.{map-append}
@@ -88,3 +91,16 @@ module _ {N E : Type 0} (ps qs : List (Known N E)) (first : Known N E) (v : View
         (λ (e : first ≡ p). subst Said e (subst (StartsWith (story_of x)) seen left.seen, ap (λ n. borne bearer n (story_of x)) zero_is ∙ (left.own ∙ own)))
         (λ (there : Contains qs p). left.kept (joined_of p) (subst (Has (joined_of p)) (sym kept) (has_joined p qs js there)))
         (others p (Contains-get_or ps k d inside))
+
+-- passes in the order of their numbers are all of them
+pub all_in_order : {N E : Type 0} (ps : List (Known N E)) (from count : ℕ) → map (λ p. p.number) ps ≡ range_with_len from count → (n : ℕ) → from ≤ n → n < from + count → (p : Known N E) × Contains ps p × (p.number ≡ n)
+all_in_order [] from zero e n low high = absurd (omega arith)
+all_in_order [] from (suc count) e n low high = cc
+all_in_order (p ∷ ps) from zero e n low high = absurd (omega arith)
+all_in_order (p ∷ ps) from (suc count) e n low high =
+    let head : p.number ≡ from = cc in
+    let tail : map (λ q. q.number) ps ≡ range_with_len (from + 1) count = cc in
+    dite (ℕ_discrete n from)
+    (λ is. (p, (zero, (omega arith), refl), head ∙ sym is))
+    (λ later. let found = all_in_order ps (from + 1) count tail n (omega arith) (omega arith) in
+      (found.0, (suc found.1.0, (let inside = found.1.1 in omega arith), found.1.2), found.2))

@@ -8,6 +8,8 @@ mod lock;
 mod pass;
 mod plays;
 mod steps;
+#[cfg(test)]
+mod tests;
 mod told;
 mod turn;
 mod view;
