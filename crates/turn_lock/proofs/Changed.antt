@@ -33,7 +33,7 @@ module _ {N E : Type 0} where
   tickets_set views id v w k at live stays (i, u, there, lives, has) =
       dite (ℕ_discrete i id)
       (λ is. let e : v ≡ u = same_at views id v u at (subst (λ z. get_elem? views z ≡ some u) is there) in
-          (id, w, set_here views id w (below_length views id v at), live, stays (ap (λ (x : View N E). x.ticket) e ∙ has)))
+      (id, w, set_here views id w (below_length views id v at), live, stays (ap (λ (x : View N E). x.ticket) e ∙ has)))
       (λ other. (i, u, set_else views id i w other ∙ there, lives, has))
 
   module _ (bearer : E → ℕ) where
@@ -42,9 +42,10 @@ module _ {N E : Type 0} where
         → StartsWith after before → AllBear bearer id (added before after) → AllHad bearer before views ks → AllHad bearer after (set views id w) ks
     had_changed before after views id v w [] at live s b h = tt
     had_changed before after views id v w (k ∷ ks) at live s b h =
-        let other = not_spent views id k.0 v at live h.0.2 in
-        ((starts_trans k.1.0 before after h.0.0 s, borne_kept bearer id k.0 before after other s b ∙ h.0.1, set_else views id k.0 w other ∙ h.0.2),
-         had_changed before after views id v w ks at live s b h.1)
+        let other = not_spent views id k.0 v at live h.0.2 in (
+          (starts_trans k.1.0 before after h.0.0 s, borne_kept bearer id k.0 before after other s b ∙ h.0.1, set_else views id k.0 w other ∙ h.0.2),
+          had_changed before after views id v w ks at live s b h.1,
+        )
 
 module _ {T N E : Type 0} where
   -- the turn that is out stays out
@@ -52,7 +53,7 @@ module _ {T N E : Type 0} where
   out_set homes views id v w at live stays (i, u, empty, there, lives, out) =
       dite (ℕ_discrete i id)
       (λ is. let e : v ≡ u = same_at views id v u at (subst (λ z. get_elem? views z ≡ some u) is there) in
-          (id, w, empty, set_here views id w (below_length views id v at), live, stays (ap (λ (x : View N E). x.out) e ∙ out)))
+      (id, w, empty, set_here views id w (below_length views id v at), live, stays (ap (λ (x : View N E). x.out) e ∙ out)))
       (λ other. (i, u, empty, set_else views id i w other ∙ there, lives, out))
 
 module _ {T N E : Type 0} (name_of : T → N) (story_of : T → List E) (bearer : E → ℕ) (mark_of : T → ℕ) (most : N → ℕ) (called : N) where
@@ -120,13 +121,13 @@ module _ {T N E : Type 0} (name_of : T → N) (story_of : T → List E) (bearer 
         (at_set s.views id j w u there);
     unique = λ i j a b k at_a at_b live_a live_b has_a has_b. ⊎_elim
         (λ (p : (i ≡ id) × (w ≡ a)). ⊎_elim
-          (λ (q : (j ≡ id) × (w ≡ b)). p.0 ∙ sym q.0)
-          (λ (q : (j ≢ id) × (get_elem? s.views j ≡ some b)). absurd (alone j b k q.0 q.1 live_b has_b (ap (λ (x : View N E). x.ticket) p.1 ∙ has_a)))
-          (at_set s.views id j w b at_b))
+        (λ (q : (j ≡ id) × (w ≡ b)). p.0 ∙ sym q.0)
+        (λ (q : (j ≢ id) × (get_elem? s.views j ≡ some b)). absurd (alone j b k q.0 q.1 live_b has_b (ap (λ (x : View N E). x.ticket) p.1 ∙ has_a)))
+        (at_set s.views id j w b at_b))
         (λ (p : (i ≢ id) × (get_elem? s.views i ≡ some a)). ⊎_elim
-          (λ (q : (j ≡ id) × (w ≡ b)). absurd (alone i a k p.0 p.1 live_a has_a (ap (λ (x : View N E). x.ticket) q.1 ∙ has_b)))
-          (λ (q : (j ≢ id) × (get_elem? s.views j ≡ some b)). r.unique i j a b k p.1 q.1 live_a live_b has_a has_b)
-          (at_set s.views id j w b at_b))
+        (λ (q : (j ≡ id) × (w ≡ b)). absurd (alone i a k p.0 p.1 live_a has_a (ap (λ (x : View N E). x.ticket) q.1 ∙ has_b)))
+        (λ (q : (j ≢ id) × (get_elem? s.views j ≡ some b)). r.unique i j a b k p.1 q.1 live_a live_b has_a has_b)
+        (at_set s.views id j w b at_b))
         (at_set s.views id i w a at_a);
     every = every;
     nobody = λ n long. nobody n (omega (arith, length-set s.views id w));

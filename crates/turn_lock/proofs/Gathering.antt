@@ -76,11 +76,14 @@ module _ {N E : Type 0} (ps qs : List (Known N E)) (first : Known N E) (v : View
   pub has_all : (seats : ℕ) → v.count ≡ seats → ((n : ℕ) → n < seats → (p : Known N E) × Contains ps p × (p.number ≡ n)) → HasAll v
   has_all seats counted all n later below =
       let p = all n (omega arith) in
-      let numbered = p.2 in
-      (joined_of p.0, numbered, ⊎_elim
-        (λ (e : first ≡ p.0). let same : first.number ≡ p.0.number = ap (λ (q : Known N E). q.number) e in absurd (omega arith))
-        (λ (there : Contains qs p.0). subst (Has (joined_of p.0)) (sym kept) (has_joined p.0 qs js there))
-        (others p.0 p.1))
+      let numbered = p.2 in (
+        joined_of p.0,
+        numbered,
+        ⊎_elim
+            (λ (e : first ≡ p.0). let same : first.number ≡ p.0.number = ap (λ (q : Known N E). q.number) e in absurd (omega arith))
+            (λ (there : Contains qs p.0). subst (Has (joined_of p.0)) (sym kept) (has_joined p.0 qs js there))
+            (others p.0 p.1),
+      )
 
   pub all_left : {T : Type 0} (name_of : T → N) (story_of : T → List E) (bearer : E → ℕ) (called : N) (x : T) → IsLeft name_of story_of bearer called v x → v.seen ≡ first.seen → v.own ≡ first.own
       → All (λ (p : Known N E). StartsWith (story_of x) p.seen × (borne bearer p.number (story_of x) ≡ p.own)) ps
@@ -88,9 +91,9 @@ module _ {N E : Type 0} (ps qs : List (Known N E)) (first : Known N E) (v : View
       let p = get_or ps k d in
       let Said : Known N E → Type 0 = λ q. StartsWith (story_of x) q.seen × (borne bearer q.number (story_of x) ≡ q.own) in
       ⊎_elim
-        (λ (e : first ≡ p). subst Said e (subst (StartsWith (story_of x)) seen left.seen, ap (λ n. borne bearer n (story_of x)) zero_is ∙ (left.own ∙ own)))
-        (λ (there : Contains qs p). left.kept (joined_of p) (subst (Has (joined_of p)) (sym kept) (has_joined p qs js there)))
-        (others p (Contains-get_or ps k d inside))
+      (λ (e : first ≡ p). subst Said e (subst (StartsWith (story_of x)) seen left.seen, ap (λ n. borne bearer n (story_of x)) zero_is ∙ (left.own ∙ own)))
+      (λ (there : Contains qs p). left.kept (joined_of p) (subst (Has (joined_of p)) (sym kept) (has_joined p qs js there)))
+      (others p (Contains-get_or ps k d inside))
 
 -- passes in the order of their numbers are all of them
 pub all_in_order : {N E : Type 0} (ps : List (Known N E)) (from count : ℕ) → map (λ p. p.number) ps ≡ range_with_len from count → (n : ℕ) → from ≤ n → n < from + count → (p : Known N E) × Contains ps p × (p.number ≡ n)
@@ -103,4 +106,4 @@ all_in_order (p ∷ ps) from (suc count) e n low high =
     dite (ℕ_discrete n from)
     (λ is. (p, (zero, (omega arith), refl), head ∙ sym is))
     (λ later. let found = all_in_order ps (from + 1) count tail n (omega arith) (omega arith) in
-      (found.0, (suc found.1.0, (let inside = found.1.1 in omega arith), found.1.2), found.2))
+    (found.0, (suc found.1.0, (let inside = found.1.1 in omega arith), found.1.2), found.2))

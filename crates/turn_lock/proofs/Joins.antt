@@ -30,9 +30,10 @@ module _ {N E : Type 0} (bearer : E → ℕ) where
   had_joined : (story : List E) (views : List (View N E)) (id other : ℕ) (v w both : View N E) (ks : List (Joined E)) → get_elem? views id ≡ some v → v.live ≡ true → get_elem? views other ≡ some w → w.live ≡ true
       → AllHad bearer story views ks → AllHad bearer story (set (set views id both) other spent) ks
   had_joined story views id other v w both [] at live there lives h = tt
-  had_joined story views id other v w both (k ∷ ks) at live there lives h =
-      ((h.0.0, h.0.1, set_else (set views id both) other k.0 spent (not_spent views other k.0 w there lives h.0.2) ∙ (set_else views id k.0 both (not_spent views id k.0 v at live h.0.2) ∙ h.0.2)),
-       had_joined story views id other v w both ks at live there lives h.1)
+  had_joined story views id other v w both (k ∷ ks) at live there lives h = (
+    (h.0.0, h.0.1, set_else (set views id both) other k.0 spent (not_spent views other k.0 w there lives h.0.2) ∙ (set_else views id k.0 both (not_spent views id k.0 v at live h.0.2) ∙ h.0.2)),
+    had_joined story views id other v w both ks at live there lives h.1,
+  )
 
 module _ {T N E : Type 0} (name_of : T → N) (story_of : T → List E) (bearer : E → ℕ) (mark_of : T → ℕ) (most : N → ℕ) (called : N) where
   abbrev Ru : State (Option T) (View N E) → Type 0
@@ -60,6 +61,7 @@ module _ {T N E : Type 0} (name_of : T → N) (story_of : T → List E) (bearer 
       only : (i : ℕ) (v : View N E) → get_elem? (opener called ∷ []) i ≡ some v → i ≡ 0
       only zero v at = refl
       only (suc i) v at = absurd (some-ne-none v (sym at))
+
       first_fits : (i : ℕ) (v : View N E) → get_elem? (opener called ∷ []) i ≡ some v → v.live ≡ true → Fi (record { story = []; tickets = 1; serving = 0; marked = 0 }) (some None ∷ []) (opener called ∷ []) i v
       first_fits zero v at live = subst (Fi (record { story = []; tickets = 1; serving = 0; marked = 0 }) (some None ∷ []) (opener called ∷ []) 0) (some-injective (opener called) v at) record {
         number = refl;
@@ -101,37 +103,37 @@ module _ {T N E : Type 0} (name_of : T → N) (story_of : T → List E) (bearer 
       let counted : v.count ≡ length s.views = r.count v (subst (λ i. get_elem? s.views i ≡ some v) first at) live in
       let stays : (ks : List (Joined E)) → AllHad bearer m.story s.views ks → AllHad bearer m.story mid ks = λ ks. had_changed bearer m.story m.story s.views id v l ks at live (starts_self m.story) (nothing_added bearer m.story id) in
       let had_fits : (j : ℕ) (u : View N E) → get_elem? mid j ≡ some u → u.live ≡ true → Fi m s.homes mid j u = λ j u there lives. ⊎_elim
-          (λ (t : (j ≡ id) × (l ≡ u)). subst (λ (z : ℕ × View N E). Fi m s.homes mid z.0 z.1) (λ i. (sym t.0 i, t.1 i)) record {
-            number = f.number;
-            name = f.name;
-            seen = f.seen;
-            own = f.own;
-            mark = f.mark;
-            past = f.past;
-            ticket = f.ticket;
-            out = f.out;
-            kept = stays v.kept f.kept;
-          })
-          (λ (t : (j ≢ id) × (get_elem? s.views j ≡ some u)). let g = r.each j u t.1 lives in record {
-            number = g.number;
-            name = g.name;
-            seen = g.seen;
-            own = g.own;
-            mark = g.mark;
-            past = g.past;
-            ticket = g.ticket;
-            out = g.out;
-            kept = stays u.kept g.kept;
-          })
-          (at_set s.views id j l u there) in
+      (λ (t : (j ≡ id) × (l ≡ u)). subst (λ (z : ℕ × View N E). Fi m s.homes mid z.0 z.1) (λ i. (sym t.0 i, t.1 i)) record {
+        number = f.number;
+        name = f.name;
+        seen = f.seen;
+        own = f.own;
+        mark = f.mark;
+        past = f.past;
+        ticket = f.ticket;
+        out = f.out;
+        kept = stays v.kept f.kept;
+      })
+      (λ (t : (j ≢ id) × (get_elem? s.views j ≡ some u)). let g = r.each j u t.1 lives in record {
+        number = g.number;
+        name = g.name;
+        seen = g.seen;
+        own = g.own;
+        mark = g.mark;
+        past = g.past;
+        ticket = g.ticket;
+        out = g.out;
+        kept = stays u.kept g.kept;
+      })
+      (at_set s.views id j l u there) in
       let before : (j : ℕ) (u : View N E) (k : ℕ) → get_elem? (mid ++ n ∷ []) j ≡ some u → u.live ≡ true → u.ticket ≡ Some k → (o : View N E) × (get_elem? s.views j ≡ some o) × (o.live ≡ true) × (o.ticket ≡ Some k) =
-          λ j u k there lives has. ⊎_elim
-          (λ (old : get_elem? mid j ≡ some u). ⊎_elim
-            (λ (t : (j ≡ id) × (l ≡ u)). (v, subst (λ i. get_elem? s.views i ≡ some v) (sym t.0) at, live, ap (λ (x : View N E). x.ticket) t.1 ∙ has))
-            (λ (t : (j ≢ id) × (get_elem? s.views j ≡ some u)). (u, t.1, lives, has))
-            (at_set s.views id j l u old))
-          (λ (t : (j ≡ length mid) × (n ≡ u)). let none_is : None ≡ Some k = ap (λ (x : View N E). x.ticket) t.1 ∙ has in cc)
-          (at_new mid n u j there) in record {
+      λ j u k there lives has. ⊎_elim
+      (λ (old : get_elem? mid j ≡ some u). ⊎_elim
+      (λ (t : (j ≡ id) × (l ≡ u)). (v, subst (λ i. get_elem? s.views i ≡ some v) (sym t.0) at, live, ap (λ (x : View N E). x.ticket) t.1 ∙ has))
+      (λ (t : (j ≢ id) × (get_elem? s.views j ≡ some u)). (u, t.1, lives, has))
+      (at_set s.views id j l u old))
+      (λ (t : (j ≡ length mid) × (n ≡ u)). let none_is : None ≡ Some k = ap (λ (x : View N E). x.ticket) t.1 ∙ has in cc)
+      (at_new mid n u j there) in record {
         moment = m;
         words = r.words;
         small = r.small;
@@ -156,9 +158,9 @@ module _ {T N E : Type 0} (name_of : T → N) (story_of : T → List E) (bearer 
         nobody = λ k long. r.nobody k (omega (arith, length-append mid (n ∷ [])));
         count = λ u there lives. ⊎_elim
             (λ (old : get_elem? mid 0 ≡ some u). ⊎_elim
-              (λ (t : (0 ≡ id) × (l ≡ u)). ap (λ (x : View N E). x.count) (sym t.1) ∙ omega (arith, length-append mid (n ∷ [])))
-              (λ (t : (0 ≢ id) × (get_elem? s.views 0 ≡ some u)). absurd (t.0 (sym first)))
-              (at_set s.views id 0 l u old))
+            (λ (t : (0 ≡ id) × (l ≡ u)). ap (λ (x : View N E). x.count) (sym t.1) ∙ omega (arith, length-append mid (n ∷ [])))
+            (λ (t : (0 ≢ id) × (get_elem? s.views 0 ≡ some u)). absurd (t.0 (sym first)))
+            (at_set s.views id 0 l u old))
             (λ (t : (0 ≡ length mid) × (n ≡ u)). absurd (omega arith))
             (at_new mid n u 0 there);
         place = ⊎_elim (λ h. inl h) (λ o. let p = out_set s.homes s.views id v l at live (λ out. out) o in inr (p.0, p.1, p.2, at_longer mid (n ∷ []) p.0 p.1 p.3, p.4, p.5)) r.place;
@@ -181,14 +183,14 @@ module _ {T N E : Type 0} (name_of : T → N) (story_of : T → List E) (bearer 
       let both_at : get_elem? end id ≡ some both = set_else mid other id spent (λ e. apart (sym e)) ∙ set_here s.views id both (below_length s.views id v at) in
       let kept_at : (i : ℕ) (u : View N E) → i ≢ id → i ≢ other → get_elem? s.views i ≡ some u → get_elem? end i ≡ some u = λ i u not_id not_other old. set_else mid other i spent not_other ∙ (set_else s.views id i both not_id ∙ old) in
       let was : (j : ℕ) (u : View N E) → get_elem? end j ≡ some u → u.live ≡ true → ((j ≡ id) × (both ≡ u)) ⊎ ((j ≢ id) × (get_elem? s.views j ≡ some u)) = λ j u here lives_u. ⊎_elim
-          (λ (t : (j ≡ other) × (spent ≡ u)). let b : false ≡ true = ap (λ (x : View N E). x.live) t.1 ∙ lives_u in cc)
-          (λ (t : (j ≢ other) × (get_elem? mid j ≡ some u)). at_set s.views id j both u t.1)
-          (at_set mid other j spent u here) in
+      (λ (t : (j ≡ other) × (spent ≡ u)). let b : false ≡ true = ap (λ (x : View N E). x.live) t.1 ∙ lives_u in cc)
+      (λ (t : (j ≢ other) × (get_elem? mid j ≡ some u)). at_set s.views id j both u t.1)
+      (at_set mid other j spent u here) in
       let before : (j : ℕ) (u : View N E) (k : ℕ) → get_elem? end j ≡ some u → u.live ≡ true → u.ticket ≡ Some k → (o : View N E) × (get_elem? s.views j ≡ some o) × (o.live ≡ true) × (o.ticket ≡ Some k) =
-          λ j u k here lives_u has. ⊎_elim
-          (λ (t : (j ≡ id) × (both ≡ u)). (v, subst (λ i. get_elem? s.views i ≡ some v) (sym t.0) at, live, ap (λ (x : View N E). x.ticket) t.1 ∙ has))
-          (λ (t : (j ≢ id) × (get_elem? s.views j ≡ some u)). (u, t.1, lives_u, has))
-          (was j u here lives_u) in record {
+      λ j u k here lives_u has. ⊎_elim
+      (λ (t : (j ≡ id) × (both ≡ u)). (v, subst (λ i. get_elem? s.views i ≡ some v) (sym t.0) at, live, ap (λ (x : View N E). x.ticket) t.1 ∙ has))
+      (λ (t : (j ≢ id) × (get_elem? s.views j ≡ some u)). (u, t.1, lives_u, has))
+      (was j u here lives_u) in record {
         moment = m;
         words = r.words;
         small = r.small;
@@ -221,8 +223,14 @@ module _ {T N E : Type 0} (name_of : T → N) (story_of : T → List E) (bearer 
         unique = λ i j a b k at_a at_b live_a live_b has_a has_b. let p = before i a k at_a live_a has_a in let q = before j b k at_b live_b has_b in r.unique i j p.0 q.0 k p.1 q.1 p.2 q.2 p.3 q.3;
         every = λ k from below. let h = r.every k from below in dite (ℕ_discrete h.0 id)
             (λ is. let e : v ≡ h.1 = same_at s.views id v h.1 at (subst (λ i. get_elem? s.views i ≡ some h.1) is h.2) in (id, both, both_at, live, ap (λ (x : View N E). x.ticket) e ∙ h.4))
-            (λ not_id. (h.0, h.1, kept_at h.0 h.1 not_id
-              (λ is. let e : w ≡ h.1 = same_at s.views other w h.1 at_w (subst (λ i. get_elem? s.views i ≡ some h.1) is h.2) in let none_is : None ≡ Some k = sym no_ticket ∙ (ap (λ (x : View N E). x.ticket) e ∙ h.4) in cc) h.2, h.3, h.4));
+            (λ not_id. (
+              h.0,
+              h.1,
+              kept_at h.0 h.1 not_id
+                  (λ is. let e : w ≡ h.1 = same_at s.views other w h.1 at_w (subst (λ i. get_elem? s.views i ≡ some h.1) is h.2) in let none_is : None ≡ Some k = sym no_ticket ∙ (ap (λ (x : View N E). x.ticket) e ∙ h.4) in cc) h.2,
+              h.3,
+              h.4,
+            ));
         nobody = λ n above. r.nobody n (omega arith);
         count = λ u here lives_u. ⊎_elim
             (λ (t : (0 ≡ id) × (both ≡ u)). ap (λ (x : View N E). x.count) (sym t.1) ∙ (r.count v (subst (λ i. get_elem? s.views i ≡ some v) (sym t.0) at) live ∙ sym long))
@@ -230,9 +238,16 @@ module _ {T N E : Type 0} (name_of : T → N) (story_of : T → List E) (bearer 
             (was 0 u here lives_u);
         place = ⊎_elim (λ h. inl h)
             (λ (o : IsOut s.homes s.views). dite (ℕ_discrete o.0 id)
-              (λ is. let e : v ≡ o.1 = same_at s.views id v o.1 at (subst (λ i. get_elem? s.views i ≡ some o.1) is o.3) in let b : false ≡ true = sym idle ∙ (ap (λ (x : View N E). x.out) e ∙ o.5) in cc)
-              (λ not_id. inr (o.0, o.1, o.2, kept_at o.0 o.1 not_id
-                (λ is. let e : w ≡ o.1 = same_at s.views other w o.1 at_w (subst (λ i. get_elem? s.views i ≡ some o.1) is o.3) in let b : false ≡ true = sym idle_w ∙ (ap (λ (x : View N E). x.out) e ∙ o.5) in cc) o.3, o.4, o.5)))
+            (λ is. let e : v ≡ o.1 = same_at s.views id v o.1 at (subst (λ i. get_elem? s.views i ≡ some o.1) is o.3) in let b : false ≡ true = sym idle ∙ (ap (λ (x : View N E). x.out) e ∙ o.5) in cc)
+            (λ not_id. inr (
+              o.0,
+              o.1,
+              o.2,
+              kept_at o.0 o.1 not_id
+                  (λ is. let e : w ≡ o.1 = same_at s.views other w o.1 at_w (subst (λ i. get_elem? s.views i ≡ some o.1) is o.3) in let b : false ≡ true = sym idle_w ∙ (ap (λ (x : View N E). x.out) e ∙ o.5) in cc) o.3,
+              o.4,
+              o.5,
+            )))
             r.place;
       }
 
@@ -255,11 +270,11 @@ module _ {T N E : Type 0} (name_of : T → N) (story_of : T → List E) (bearer 
       let past = f.past in
       let some_past = last.past in
       let home : AtHome name_of story_of bearer mark_of most called m s.homes = ⊎_elim (λ h. h)
-          (λ (o : IsOut s.homes s.views). absurd (dite (ℕ_discrete o.0 0)
-            (λ is. let e : v ≡ o.1 = same_at s.views 0 v o.1 at_0 (subst (λ i. get_elem? s.views i ≡ some o.1) is o.3) in let b : false ≡ true = sym last.out ∙ (ap (λ (x : View N E). x.out) e ∙ o.5) in cc)
-            (λ no. let inside = below_length s.views o.0 o.1 o.3 in let x = all o.0 (omega arith) (omega arith) in
-              let gone = (had_one m.story s.views x.0 v.kept f.kept x.2).2 in not_spent s.views o.0 x.0.0 o.1 o.3 o.4 gone x.1)))
-          r.place in
+      (λ (o : IsOut s.homes s.views). absurd (dite (ℕ_discrete o.0 0)
+      (λ is. let e : v ≡ o.1 = same_at s.views 0 v o.1 at_0 (subst (λ i. get_elem? s.views i ≡ some o.1) is o.3) in let b : false ≡ true = sym last.out ∙ (ap (λ (x : View N E). x.out) e ∙ o.5) in cc)
+      (λ no. let inside = below_length s.views o.0 o.1 o.3 in let x = all o.0 (omega arith) (omega arith) in
+      let gone = (had_one m.story s.views x.0 v.kept f.kept x.2).2 in not_spent s.views o.0 x.0.0 o.1 o.3 o.4 gone x.1)))
+      r.place in
       let x = home.2 (omega arith) in
       let is : m.story ≡ story_of x.0 = sym x.2.1 in (
         x.0,

@@ -39,25 +39,25 @@ module _ {T N E : Type 0} (name_of : T → N) (story_of : T → List E) (bearer 
         keeps,
         tt,
         changed name_of story_of bearer mark_of most called s r id v w m' (new ∷ m.serving ∷ m.marked ∷ []) s.homes at live live refl refl small (omega (arith, r.order)) r.top
-        (λ j u other there lives. fits_other name_of story_of bearer mark_of most called s r id j v w u m' s.homes at live other there lives (starts_self m.story) (nothing_added bearer m.story id) (omega arith) (omega arith)
-          (λ k has from below. (from, omega arith)) (r.each j u there lives).out)
-        (let f = r.each id v at live in record {
-          number = f.number;
-          name = f.name;
-          seen = f.seen;
-          own = f.own;
-          mark = f.mark;
-          past = f.past;
-          ticket = λ k has. let e : k ≡ old = cc in let o = r.order in (omega arith, omega arith);
-          out = λ out. let none_is : None ≡ Some m.serving = sym idle ∙ (f.out out).0 in cc;
-          kept = had_changed bearer m.story m.story s.views id v w v.kept at live (starts_self m.story) (nothing_added bearer m.story id) f.kept;
-        })
-        (λ j u k other there lives has mine. let e : k ≡ old = cc in let t = (r.each j u there lives).ticket k has in absurd (omega arith))
-        (λ k from below. dite (ℕ_discrete k old)
-          (λ is. (id, w, set_here s.views id w (below_length s.views id v at), live, ap Some (sym is)))
-          (λ no. tickets_set s.views id v w k at live (λ has. let none_is : None ≡ Some k = sym idle ∙ has in cc) (r.every k from (omega arith))))
-        r.nobody
-        (⊎_elim (λ h. inl h) (λ o. inr (out_set s.homes s.views id v w at live (λ out. out) o)) r.place),
+            (λ j u other there lives. fits_other name_of story_of bearer mark_of most called s r id j v w u m' s.homes at live other there lives (starts_self m.story) (nothing_added bearer m.story id) (omega arith) (omega arith)
+            (λ k has from below. (from, omega arith)) (r.each j u there lives).out)
+            (let f = r.each id v at live in record {
+              number = f.number;
+              name = f.name;
+              seen = f.seen;
+              own = f.own;
+              mark = f.mark;
+              past = f.past;
+              ticket = λ k has. let e : k ≡ old = cc in let o = r.order in (omega arith, omega arith);
+              out = λ out. let none_is : None ≡ Some m.serving = sym idle ∙ (f.out out).0 in cc;
+              kept = had_changed bearer m.story m.story s.views id v w v.kept at live (starts_self m.story) (nothing_added bearer m.story id) f.kept;
+            })
+            (λ j u k other there lives has mine. let e : k ≡ old = cc in let t = (r.each j u there lives).ticket k has in absurd (omega arith))
+            (λ k from below. dite (ℕ_discrete k old)
+            (λ is. (id, w, set_here s.views id w (below_length s.views id v at), live, ap Some (sym is)))
+            (λ no. tickets_set s.views id v w k at live (λ has. let none_is : None ≡ Some k = sym idle ∙ has in cc) (r.every k from (omega arith))))
+            r.nobody
+            (⊎_elim (λ h. inl h) (λ o. inr (out_set s.homes s.views id v w at live (λ out. out) o)) r.place),
         ((λ _. ap (λ n. (record v { ticket = Some n }, me.1)) (sym hit)), λ no. absurd (no hit)),
       ))
       (λ miss. (
@@ -80,22 +80,22 @@ module _ {T N E : Type 0} (name_of : T → N) (story_of : T → List E) (bearer 
       let early = (f.ticket k has).0 in
       subst Goal (sym found) (dite (ℕ_discrete m.serving k)
       (λ turn.
-          let served : v.ticket ≡ Some m.serving = has ∙ ap Some (sym turn) in
-          let home : AtHome name_of story_of bearer mark_of most called m s.homes = ⊎_elim (λ h. h)
-              (λ (o : IsOut s.homes s.views). absurd (dite (ℕ_discrete o.0 id)
-                (λ is. let e : v ≡ o.1 = same_at s.views id v o.1 at (subst (λ i. get_elem? s.views i ≡ some o.1) is o.3) in let b : false ≡ true = sym waits ∙ (ap (λ (x : View N E). x.out) e ∙ o.5) in cc)
-                (λ no. none_out name_of story_of bearer mark_of most called s r id o.0 v o.1 at live served no o.3 o.4 o.5)))
-              r.place in
-          let y = home.0 in
-          let w : View N E = record v { out = true; seen = m.story; mark = m.marked; turns = turns_after v.past v.turns } in
-          let homes' : Homes T = set s.homes 0 none in
-          let empty : homes' ≡ none ∷ [] = ap (λ h. set h 0 none) home.1 in (
-            w,
-            takes 0 y,
-            ap (λ h. get_elem? h 0) home.1,
-            changed name_of story_of bearer mark_of most called s r id v w m (set s.words 1 m.serving) homes' at live live refl (ap (λ ws. set ws 1 m.serving) r.words) r.small r.order r.top
+      let served : v.ticket ≡ Some m.serving = has ∙ ap Some (sym turn) in
+      let home : AtHome name_of story_of bearer mark_of most called m s.homes = ⊎_elim (λ h. h)
+      (λ (o : IsOut s.homes s.views). absurd (dite (ℕ_discrete o.0 id)
+      (λ is. let e : v ≡ o.1 = same_at s.views id v o.1 at (subst (λ i. get_elem? s.views i ≡ some o.1) is o.3) in let b : false ≡ true = sym waits ∙ (ap (λ (x : View N E). x.out) e ∙ o.5) in cc)
+      (λ no. none_out name_of story_of bearer mark_of most called s r id o.0 v o.1 at live served no o.3 o.4 o.5)))
+      r.place in
+      let y = home.0 in
+      let w : View N E = record v { out = true; seen = m.story; mark = m.marked; turns = turns_after v.past v.turns } in
+      let homes' : Homes T = set s.homes 0 none in
+      let empty : homes' ≡ none ∷ [] = ap (λ h. set h 0 none) home.1 in (
+        w,
+        takes 0 y,
+        ap (λ h. get_elem? h 0) home.1,
+        changed name_of story_of bearer mark_of most called s r id v w m (set s.words 1 m.serving) homes' at live live refl (ap (λ ws. set ws 1 m.serving) r.words) r.small r.order r.top
             (λ j u other there lives. fits_other name_of story_of bearer mark_of most called s r id j v w u m homes' at live other there lives (starts_self m.story) (nothing_added bearer m.story id) (omega arith) (omega arith)
-              (λ q has_q from below. (from, below)) (λ out. absurd (none_out name_of story_of bearer mark_of most called s r id j v u at live served other there lives out)))
+            (λ q has_q from below. (from, below)) (λ out. absurd (none_out name_of story_of bearer mark_of most called s r id j v u at live served other there lives out)))
             record {
               number = f.number;
               name = f.name;
@@ -111,26 +111,26 @@ module _ {T N E : Type 0} (name_of : T → N) (story_of : T → List E) (bearer 
             (λ q from below. tickets_set s.views id v w q at live (λ h. h) (r.every q from below))
             r.nobody
             (inr (id, w, empty, set_here s.views id w (below_length s.views id v at), live, refl)),
-            λ q mine. subst (LookedFor name_of story_of bearer mark_of me m.serving (w, (0, y) ∷ me.1)) (cc) (
-              early,
-              (λ _. (
-                (
-                  y,
-                  m.story,
-                  m.marked,
-                  refl,
-                  (
-                    f.seen,
-                    f.mark,
-                    ap (λ n. borne bearer n m.story) f.number ∙ f.own,
-                    (λ some_past. let x = home.2 (omega (arith, f.past)) in (x.0, x.1, ap Some x.2.0 ∙ sym f.name, x.2.1, x.2.2)),
-                  ),
-                ),
-                (λ zero_is. home.3 zero_is),
-              )),
-              (λ no. absurd (no turn)),
+        λ q mine. subst (LookedFor name_of story_of bearer mark_of me m.serving (w, (0, y) ∷ me.1)) (cc) (
+          early,
+          (λ _. (
+            (
+              y,
+              m.story,
+              m.marked,
+              refl,
+              (
+                f.seen,
+                f.mark,
+                ap (λ n. borne bearer n m.story) f.number ∙ f.own,
+                (λ some_past. let x = home.2 (omega (arith, f.past)) in (x.0, x.1, ap Some x.2.0 ∙ sym f.name, x.2.1, x.2.2)),
+              ),
             ),
-          ))
+            (λ zero_is. home.3 zero_is),
+          )),
+          (λ no. absurd (no turn)),
+        ),
+      ))
       (λ no. (
         v,
         keeps,
@@ -156,23 +156,23 @@ module _ {T N E : Type 0} (name_of : T → N) (story_of : T → List E) (bearer 
         keeps,
         tt,
         changed name_of story_of bearer mark_of most called s r id v w m' (set s.words 2 (max (get_or s.words 2 0) k)) s.homes at live live refl (ap (set s.words 2) raised ∙ ap (λ ws. set ws 2 k) r.words) r.small r.order top
-        (λ j u other there lives. fits_other name_of story_of bearer mark_of most called s r id j v w u m' s.homes at live other there lives (starts_self m.story) (nothing_added bearer m.story id) (omega (arith, o.3, rises)) (omega arith)
-          (λ q has from below. (from, below)) (λ out. absurd (none_out name_of story_of bearer mark_of most called s r id j v u at live o.0 other there lives out)))
-        record {
-          number = f.number;
-          name = f.name;
-          seen = f.seen;
-          own = f.own;
-          mark = omega arith;
-          past = f.past;
-          ticket = f.ticket;
-          out = λ _. (o.0, o.1, o.2, refl);
-          kept = had_changed bearer m.story m.story s.views id v w v.kept at live (starts_self m.story) (nothing_added bearer m.story id) f.kept;
-        }
-        (λ j u q other there lives has mine. other_ticket name_of story_of bearer mark_of most called s r id j v u q at live mine other there lives has)
-        (λ q from below. tickets_set s.views id v w q at live (λ h. h) (r.every q from below))
-        r.nobody
-        (inr (id, w, o.1, set_here s.views id w (below_length s.views id v at), live, is_out)),
+            (λ j u other there lives. fits_other name_of story_of bearer mark_of most called s r id j v w u m' s.homes at live other there lives (starts_self m.story) (nothing_added bearer m.story id) (omega (arith, o.3, rises)) (omega arith)
+            (λ q has from below. (from, below)) (λ out. absurd (none_out name_of story_of bearer mark_of most called s r id j v u at live o.0 other there lives out)))
+            record {
+              number = f.number;
+              name = f.name;
+              seen = f.seen;
+              own = f.own;
+              mark = omega arith;
+              past = f.past;
+              ticket = f.ticket;
+              out = λ _. (o.0, o.1, o.2, refl);
+              kept = had_changed bearer m.story m.story s.views id v w v.kept at live (starts_self m.story) (nothing_added bearer m.story id) f.kept;
+            }
+            (λ j u q other there lives has mine. other_ticket name_of story_of bearer mark_of most called s r id j v u q at live mine other there lives has)
+            (λ q from below. tickets_set s.views id v w q at live (λ h. h) (r.every q from below))
+            r.nobody
+            (inr (id, w, o.1, set_here s.views id w (below_length s.views id v at), live, is_out)),
         refl,
       )
 
@@ -190,23 +190,23 @@ module _ {T N E : Type 0} (name_of : T → N) (story_of : T → List E) (bearer 
         keeps,
         tt,
         changed name_of story_of bearer mark_of most called s r id v w m (set s.words 2 m.marked) s.homes at live live refl (ap (λ ws. set ws 2 m.marked) r.words) r.small r.order r.top
-        (λ j u other there lives. fits_other name_of story_of bearer mark_of most called s r id j v w u m s.homes at live other there lives (starts_self m.story) (nothing_added bearer m.story id) (omega arith) (omega arith)
-          (λ q has from below. (from, below)) (r.each j u there lives).out)
-        record {
-          number = f.number;
-          name = f.name;
-          seen = f.seen;
-          own = f.own;
-          mark = omega arith;
-          past = f.past;
-          ticket = f.ticket;
-          out = λ out. let o = f.out out in (o.0, o.1, o.2, refl);
-          kept = had_changed bearer m.story m.story s.views id v w v.kept at live (starts_self m.story) (nothing_added bearer m.story id) f.kept;
-        }
-        (λ j u q other there lives has mine. other_ticket name_of story_of bearer mark_of most called s r id j v u q at live mine other there lives has)
-        (λ q from below. tickets_set s.views id v w q at live (λ h. h) (r.every q from below))
-        r.nobody
-        (⊎_elim (λ h. inl h) (λ o. inr (out_set s.homes s.views id v w at live (λ out. out) o)) r.place),
+            (λ j u other there lives. fits_other name_of story_of bearer mark_of most called s r id j v w u m s.homes at live other there lives (starts_self m.story) (nothing_added bearer m.story id) (omega arith) (omega arith)
+            (λ q has from below. (from, below)) (r.each j u there lives).out)
+            record {
+              number = f.number;
+              name = f.name;
+              seen = f.seen;
+              own = f.own;
+              mark = omega arith;
+              past = f.past;
+              ticket = f.ticket;
+              out = λ out. let o = f.out out in (o.0, o.1, o.2, refl);
+              kept = had_changed bearer m.story m.story s.views id v w v.kept at live (starts_self m.story) (nothing_added bearer m.story id) f.kept;
+            }
+            (λ j u q other there lives has mine. other_ticket name_of story_of bearer mark_of most called s r id j v u q at live mine other there lives has)
+            (λ q from below. tickets_set s.views id v w q at live (λ h. h) (r.every q from below))
+            r.nobody
+            (⊎_elim (λ h. inl h) (λ o. inr (out_set s.homes s.views id v w at live (λ out. out) o)) r.place),
         (refl, f.mark, λ (c : N) (is : v.name ≡ Some c). let e : called ≡ c = some_same f.name is in subst (λ (z : N). m.marked ≤ most z) e r.top),
       )
 
@@ -237,23 +237,23 @@ module _ {T N E : Type 0} (name_of : T → N) (story_of : T → List E) (bearer 
         gives,
         tt,
         changed name_of story_of bearer mark_of most called s r id v w m' (set s.words 1 ((get_or s.words 1 0 + 1) % 2 ^ 64)) homes' at live live refl (ap (set s.words 1) next ∙ ap (λ ws. set ws 1 (m.serving + 1)) r.words) r.small (omega arith) r.top
-        (λ j u other there lives. fits_other name_of story_of bearer mark_of most called s r id j v w u m' homes' at live other there lives starts' bear' (omega arith) (omega arith)
-          (λ q has from below. let apart : q ≢ m.serving = (λ is. other_ticket name_of story_of bearer mark_of most called s r id j v u q at live (o.0 ∙ ap Some (sym is)) other there lives has) in (omega arith, below))
-          (λ out. absurd (none_out name_of story_of bearer mark_of most called s r id j v u at live o.0 other there lives out)))
-        record {
-          number = f.number;
-          name = f.name;
-          seen = starts_self (story_of x);
-          own = borne_grown bearer id m.story (story_of x) starts' bear' ∙ (λ i. f.own i ++ added (sym o.2 i) (story_of x));
-          mark = f.mark;
-          past = omega arith;
-          ticket = λ q has. let none_is : None ≡ Some q = has in cc;
-          out = λ out. let b : false ≡ true = out in cc;
-          kept = had_changed bearer m.story (story_of x) s.views id v w v.kept at live starts' bear' f.kept;
-        }
-        (λ j u q other there lives has mine. let none_is : None ≡ Some q = mine in cc)
-        (λ q from below. tickets_set s.views id v w q at live (λ has. let e : m.serving ≡ q = some_same o.0 has in absurd (omega arith)) (r.every q (omega arith) below))
-        (λ n long. let inside = below_length s.views id v at in borne_kept bearer id n m.story (story_of x) (λ is. omega arith) starts' bear' ∙ r.nobody n long)
-        (inl (Some x, full, (λ _. (x, refl, (called_is, refl, marked ∙ o.3))), λ zero_is. absurd (omega arith))),
+            (λ j u other there lives. fits_other name_of story_of bearer mark_of most called s r id j v w u m' homes' at live other there lives starts' bear' (omega arith) (omega arith)
+            (λ q has from below. let apart : q ≢ m.serving = (λ is. other_ticket name_of story_of bearer mark_of most called s r id j v u q at live (o.0 ∙ ap Some (sym is)) other there lives has) in (omega arith, below))
+            (λ out. absurd (none_out name_of story_of bearer mark_of most called s r id j v u at live o.0 other there lives out)))
+            record {
+              number = f.number;
+              name = f.name;
+              seen = starts_self (story_of x);
+              own = borne_grown bearer id m.story (story_of x) starts' bear' ∙ (λ i. f.own i ++ added (sym o.2 i) (story_of x));
+              mark = f.mark;
+              past = omega arith;
+              ticket = λ q has. let none_is : None ≡ Some q = has in cc;
+              out = λ out. let b : false ≡ true = out in cc;
+              kept = had_changed bearer m.story (story_of x) s.views id v w v.kept at live starts' bear' f.kept;
+            }
+            (λ j u q other there lives has mine. let none_is : None ≡ Some q = mine in cc)
+            (λ q from below. tickets_set s.views id v w q at live (λ has. let e : m.serving ≡ q = some_same o.0 has in absurd (omega arith)) (r.every q (omega arith) below))
+            (λ n long. let inside = below_length s.views id v at in borne_kept bearer id n m.story (story_of x) (λ is. omega arith) starts' bear' ∙ r.nobody n long)
+            (inl (Some x, full, (λ _. (x, refl, (called_is, refl, marked ∙ o.3))), λ zero_is. absurd (omega arith))),
         λ y same. ap after (value_same x y same),
       )

@@ -124,9 +124,7 @@ impl<T: Told> TurnLock<T> {
         ensures risen { pass.old.mark ≤ result }
         ensures top { (name : T.Name) → pass.old.name ≡ Some name → result ≤ T.most name }
     {
-        self.table
-            .shared
-            .load::<ReadsMark>(&mut pass.seat, MARKED)
+        self.table.shared.load::<ReadsMark>(&mut pass.seat, MARKED)
     }
 
     /// Ends the lock and gives its value. It wants all passes, none of which has a turn out.

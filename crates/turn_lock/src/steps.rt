@@ -4,7 +4,7 @@ ghost use Rattle.turn_lock.specs.Story.{StartsWith, added, AllBear};
 ghost use Rattle.turn_lock.specs.Steps.{Came};
 ghost use Rattle.turn_lock.specs.Passes.{IsSized, HasSlot};
 
-use crate::board::{Board, Place, MARKED, SERVING, TICKETS};
+use crate::board::{Board, MARKED, Place, SERVING, TICKETS};
 use crate::plays::{Draw, Look, Raise, Serve};
 use crate::told::Told;
 use crossbeam_utils::Backoff;

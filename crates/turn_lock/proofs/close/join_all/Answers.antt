@@ -10,10 +10,14 @@ pub join_seat-requires : goal.join_seat-requires
 join_seat-requires g c =
     let first = c.loop-pass.invariant.seat in
     let idle = (All-pop (IsIdle (record { table = c.args.board.now.table_id; seats = c.args.seats })) _ _ (Some c.in-Some.pass) c.in-Some.ensures.items c.loop-pass.invariant.idle).1 in
-    let waits = c.pass.invariant.waiting (ap (λ p. p.out) c.pass.view_is ∙ idle.1) in
-    (search rules, ap (λ p. p.lock.table) c.pass.view_is ∙ ap (λ l. l.table) idle.0, waits.2, search rules,
+    let waits = c.pass.invariant.waiting (ap (λ p. p.out) c.pass.view_is ∙ idle.1) in (
+      search rules,
+      ap (λ p. p.lock.table) c.pass.view_is ∙ ap (λ l. l.table) idle.0,
+      waits.2,
+      search rules,
       joins g.T.Told.name g.T.Told.story g.T.Told.bearer g.T.Told.mark g.T.Told.most _ _ _ _ _
-        (ap (λ m. m.0.live) first ∙ c.requires.first.live) (ap (λ m. m.0.number) first ∙ c.requires.first.numbered) (ap (λ m. m.0.out) first ∙ c.requires.first.out) c.pass.invariant.live waits.0 waits.1)
+          (ap (λ m. m.0.live) first ∙ c.requires.first.live) (ap (λ m. m.0.number) first ∙ c.requires.first.numbered) (ap (λ m. m.0.out) first ∙ c.requires.first.out) c.pass.invariant.live waits.0 waits.1,
+    )
 
 pub loop-pass-preserved : goal.loop-pass-preserved
 loop-pass-preserved g c =

@@ -8,7 +8,7 @@ invariant-loop-pass g l = record {
   table : l.seat.table_id ≡ l.initial.seat.table_id;
   seat : l.seat.me ≡ (record l.initial.seat.me.0 { kept = l.seat.me.0.kept }, l.initial.seat.me.1);
   kept : map joined_of l.passes.items ++ l.seat.me.0.kept ≡ map joined_of l.initial.passes.items ++ l.initial.seat.me.0.kept;
-  idle : All (IsIdle (record { table = l.board.table_id; seats = l.seats })) l.passes.items
+  idle : All (IsIdle (record { table = l.board.table_id; seats = l.seats })) l.passes.items;
 }
 
 abbrev pub decreases-loop-pass : goal.decreases-loop-pass

@@ -22,4 +22,4 @@ returns-clause-passes g c =
     let first = c.take_first.ensures in
     let joined = c.join_all.ensures.seat in
     all_left _ _ c.take_first.result c.join_all.new.seat.me.0 _ first.number (ap (λ m. m.0.kept) joined) first.others g.T.Told.name g.T.Told.story g.T.Told.bearer _ c.take_out.result c.take_out.ensures
-      (ap (λ m. m.0.seen) joined ∙ ap (λ p. p.seen) c.seat.view_is) (ap (λ m. m.0.own) joined ∙ ap (λ p. p.own) c.seat.view_is)
+    (ap (λ m. m.0.seen) joined ∙ ap (λ p. p.seen) c.seat.view_is) (ap (λ m. m.0.own) joined ∙ ap (λ p. p.own) c.seat.view_is)

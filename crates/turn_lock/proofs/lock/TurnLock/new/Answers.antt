@@ -20,5 +20,5 @@ returns-clause-passes g c =
     let room : vec_len c.deal.new.passes < vec_capacity c.deal.new.passes = omega (arith, n, c.deal.new.passes.ok.0, c.deal.ensures.capacity, c.in_ok-passes.ensures.capacity) in
     let table = c.in_ok-table.ensures in
     at_front c.insert.result _ _ _ (c.insert.ensures.succeeds room) c.insert.ensures.items
-        ∙ ((λ i. known_of c.deal.new.seat.table_id c.args.seats c.deal.new.seat.me.0 ∷ c.deal.ensures.passes i)
-        ∙ all_fresh c.in_ok-table.table.shared.table_id _ _ c.args.seats _ _ c.begin.ensures.seat.0 c.begin.new.seat.me c.deal.new.seat.me (omega arith) (c.begin.ensures.table ∙ table.2) (c.deal.ensures.table ∙ (c.begin.ensures.table ∙ table.2)) c.begin.ensures.seat.2 c.deal.ensures.seat)
+    ∙ ((λ i. known_of c.deal.new.seat.table_id c.args.seats c.deal.new.seat.me.0 ∷ c.deal.ensures.passes i)
+    ∙ all_fresh c.in_ok-table.table.shared.table_id _ _ c.args.seats _ _ c.begin.ensures.seat.0 c.begin.new.seat.me c.deal.new.seat.me (omega arith) (c.begin.ensures.table ∙ table.2) (c.deal.ensures.table ∙ (c.begin.ensures.table ∙ table.2)) c.begin.ensures.seat.2 c.deal.ensures.seat)
