@@ -9,8 +9,8 @@ use Rattle.atomic_table.specs.Table.{State, stepped, keeps}
 use Rattle.atomic_table.proofs.Lists.{at_set, set_here, set_else, set_again}
 use Rattle.turn_lock.specs.declared.view.View.{View}
 use Rattle.turn_lock.specs.Story.{StartsWith, borne, added, AllBear}
-use Rattle.turn_lock.specs.Rule.{Moment, words_of, spent, Joined, HadFits, AllHad, HasTicket, Homes, Fits, AtHome, IsOut, Kept}
-use Rattle.turn_lock.proofs.Stories.{starts_self, starts_trans, borne_kept, nothing_added}
+use Rattle.turn_lock.specs.Rule.{Moment, words_of, spent, Joined, AllHad, HasTicket, Homes, Fits, AtHome, IsOut, Kept}
+use Rattle.turn_lock.proofs.Stories.{starts_trans, borne_kept}
 
 -- an index that reads something is below the length
 pub below_length : {A : Type 0} (l : List A) (i : ℕ) (a : A) → get_elem? l i ≡ some a → i < length l

@@ -1,10 +1,10 @@
 -- What contracts see of the passes that are dealt.
-use Rattle.std.proofs.Common.{◌≡◌, ℕ, ◌+◌, ◌-◌, ◌<◌, Bool, true, false, List, [], ◌∷◌, ◌++◌, map, Option, Some, None, Result, Ok, Err, IsOk, is_ok, if◌then◌else◌, insert, zero, suc, refl, sym, ap, ◌∙◌, arith}
+use Rattle.std.proofs.Common.{◌≡◌, ℕ, ◌-◌, ◌<◌, true, false, List, [], ◌∷◌, map, Option, None, Result, Ok, Err, IsOk, is_ok, if◌then◌else◌, insert, zero, suc, sym, ap, ◌∙◌, arith}
 use Rattle.std.specs.List.{range_with_len}
 use Rattle.atomic_table.specs.Seated.{TableId}
 use Rattle.atomic_table.specs.Table.{Me}
 use Rattle.turn_lock.specs.declared.view.View.{View}
-use Rattle.turn_lock.specs.Known.{Known, fresh}
+use Rattle.turn_lock.specs.Known.{fresh}
 use Rattle.turn_lock.specs.Rule.{opener}
 use Rattle.turn_lock.specs.Steps.{dealt}
 use Rattle.turn_lock.specs.Passes.{known_of, IsFirst}

@@ -1,5 +1,5 @@
 -- A list of which one element is taken out, and the entries of joined passes.
-use Rattle.std.proofs.Common.{◌≡◌, ◌≢◌, ◌⊎◌, ⊎_elim, inl, inr, ℕ, ◌+◌, ◌<◌, List, [], ◌∷◌, ◌++◌, map, length, get_or, remove, zero, suc, refl, sym, ap, ◌∙◌, subst, arith, Contains, IsPermutation, append_assoc, Option, Some, All, ◌≤◌}
+use Rattle.std.proofs.Common.{◌≡◌, ◌⊎◌, ⊎_elim, inl, inr, ℕ, ◌+◌, ◌<◌, List, [], ◌∷◌, ◌++◌, map, length, get_or, remove, zero, suc, refl, sym, ap, ◌∙◌, subst, arith, Contains, IsPermutation, append_assoc, Option, Some, All, ◌≤◌}
 use mathlib.Core.Logic.{dite}
 use native.Mathlib.Decide.{ℕ_discrete}
 use Rattle.std.specs.List.{range_with_len}

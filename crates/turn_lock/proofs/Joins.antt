@@ -1,18 +1,18 @@
 -- Making the table, dealing seats, joining them and the end keep the rule.
-use Rattle.std.proofs.Common.{◌≡◌, ◌≢◌, ℕ, ◌+◌, ◌^◌, ◌<◌, ◌≤◌, Bool, true, false, List, [], ◌∷◌, ◌++◌, length, set, replicate, refl, sym, ap, ◌∙◌, subst, ◌⊎◌, ⊎_elim, inl, inr, Option, Some, None, length-set, length-append, arith, zero, suc}
+use Rattle.std.proofs.Common.{◌≡◌, ◌≢◌, ℕ, ◌<◌, true, false, List, [], ◌∷◌, ◌++◌, length, set, replicate, refl, sym, ap, ◌∙◌, subst, ◌⊎◌, ⊎_elim, inl, inr, Option, Some, None, length-set, length-append, arith, zero, suc}
 use mathlib.Core.Logic.{dite}
-use mathlib.Core.Option.{none, some, some-ne-none, some-injective}
+use mathlib.Core.Option.{some, some-ne-none, some-injective}
 use native.Mathlib.Decide.{ℕ_discrete}
 use lib.ListN.{get_elem?}
 use Rattle.atomic_table.specs.Table.{State, Splits, Joins, Final, Seen, opening}
 use Rattle.atomic_table.proofs.Lists.{at_set, set_here, set_else, at_longer}
 use Rattle.turn_lock.specs.declared.view.View.{View}
 use Rattle.turn_lock.specs.Story.{StartsWith, borne}
-use Rattle.turn_lock.specs.Rule.{Moment, opener, spent, Homes, Joined, HadFits, AllHad, HasTicket, IsValue, AtHome, IsOut, Kept, Fits}
+use Rattle.turn_lock.specs.Rule.{Moment, opener, spent, Homes, Joined, HadFits, AllHad, AtHome, IsOut, Kept, Fits}
 use Rattle.turn_lock.specs.Steps.{dealer, dealt, joined}
 use Rattle.turn_lock.specs.Ending.{Has, IsLast, HasAll, IsLeft}
 use Rattle.turn_lock.proofs.Stories.{starts_self, nothing_added}
-use Rattle.turn_lock.proofs.Changed.{below_length, same_at, not_spent, tickets_set, had_changed, out_set, Fit}
+use Rattle.turn_lock.proofs.Changed.{below_length, same_at, not_spent, tickets_set, had_changed, out_set}
 
 -- what stands in a list with one more: in the list, or at its end
 at_new : {A : Type 0} (l : List A) (a b : A) (j : ℕ) → get_elem? (l ++ a ∷ []) j ≡ some b → (get_elem? l j ≡ some b) ⊎ ((j ≡ length l) × (a ≡ b))

@@ -1,5 +1,5 @@
 -- The steps of a turn keep the rule.
-use Rattle.std.proofs.Common.{◌≡◌, ◌≢◌, ℕ, ◌+◌, ◌%◌, ◌^◌, ◌<◌, ◌≤◌, max, eqb, Bool, true, false, List, [], ◌∷◌, ◌++◌, length, set, get_or, refl, sym, ap, ◌∙◌, subst, ◌⊎◌, ⊎_elim, inl, inr, Option, Some, None, arith, zero, suc}
+use Rattle.std.proofs.Common.{◌≡◌, ◌≢◌, ℕ, ◌+◌, ◌%◌, ◌^◌, ◌<◌, ◌≤◌, max, eqb, true, false, List, [], ◌∷◌, ◌++◌, set, get_or, refl, sym, ap, ◌∙◌, subst, ⊎_elim, inl, inr, Option, Some, None, arith}
 use mathlib.Core.Logic.{dite}
 use mathlib.Core.Option.{none, some}
 use native.Mathlib.Decide.{ℕ_discrete}
@@ -9,10 +9,10 @@ use Rattle.atomic_table.specs.Table.{State, Me, step, Act, keeps, takes, gives, 
 use Rattle.atomic_table.proofs.Lists.{set_here, exchanged}
 use Rattle.turn_lock.specs.declared.view.View.{View}
 use Rattle.turn_lock.specs.Story.{StartsWith, borne, added, AllBear}
-use Rattle.turn_lock.specs.Rule.{Moment, words_of, Homes, HasTicket, AtHome, IsOut, Kept}
-use Rattle.turn_lock.specs.Steps.{turns_after, Drawn, IsFound, LookedFor, Looked, Raised, Served, ReadMark}
+use Rattle.turn_lock.specs.Rule.{Moment, words_of, Homes, AtHome, IsOut, Kept}
+use Rattle.turn_lock.specs.Steps.{turns_after, Drawn, LookedFor, Looked, Raised, Served, ReadMark}
 use Rattle.turn_lock.proofs.Stories.{starts_self, borne_kept, borne_grown, nothing_added}
-use Rattle.turn_lock.proofs.Changed.{below_length, same_at, tickets_set, had_changed, out_set, Table, Rule, Fit, Place, other_ticket, none_out, fits_other, changed, unmoved}
+use Rattle.turn_lock.proofs.Changed.{below_length, same_at, tickets_set, had_changed, out_set, other_ticket, none_out, fits_other, changed, unmoved}
 
 some_same : {A : Type 0} {o : Option A} {a b : A} → o ≡ Some a → o ≡ Some b → a ≡ b
 some_same p q = cc

@@ -40,7 +40,7 @@ impl<T: Told> Model for TurnLock<T> {
 }
 
 impl<T: Told> TurnLock<T> {
-    /// The lock of a value whose story is empty, and its passes in the order of their numbers.
+    /// The lock of a value whose story is empty, and its 1 to 16 passes in the order of their numbers.
     pub fn new(
         alloc: Global,
         value: T,
@@ -49,7 +49,8 @@ impl<T: Told> TurnLock<T> {
         requires seats { (1 ≤ seats) × (seats ≤ 16) }
         requires story { T.story value ≡ [] }
         ensures lock { IfOk result (λ r. (r.0.id.seats ≡ seats) × (r.0.name ≡ T.name value)) }
-        ensures passes { IfOk result (λ r. r.1.items ≡ map (fresh r.0.id (T.name value) (T.mark value)) (range_with_len 0 seats)) }
+        ensures passes { IfOk result
+            (λ r. r.1.items ≡ map (fresh r.0.id (T.name value) (T.mark value)) (range_with_len 0 seats)) }
     {
         let mut passes = Vec::with_capacity(alloc, seats as usize)?;
         let (table, mut seat) = Table::<T>::vacant(alloc, &[1, 0, 0], 1, &value)?;
@@ -75,11 +76,13 @@ impl<T: Told> TurnLock<T> {
         ))
     }
 
-    /// Takes the lock. Where another turn is out, it waits for it, and for those that asked before.
+    /// Takes the value, whose story begins with all that the pass has seen. It waits for the turn that is out, and for
+    /// those that asked before. The turn after the last of 2^64 - 1 tickets never comes.
     pub fn take<R: Wait>(&self, rt: &R, pass: &mut Pass<T>) -> Turn<T>
         requires lock { pass.old.lock ≡ self.now.id }
         requires idle { pass.old.out ≡ false }
-        ensures pass { pass.new ≡ record pass.old { out = true; seen = T.story result; mark = T.mark result; turns = pass.old.turns + 1 } }
+        ensures pass { pass.new
+            ≡ record pass.old { out = true; seen = T.story result; mark = T.mark result; turns = pass.old.turns + 1 } }
         ensures name { Some (T.name result) ≡ pass.old.name }
         ensures story { StartsWith (T.story result) pass.old.seen }
         ensures own { borne T.bearer pass.old.number (T.story result) ≡ pass.old.own }
@@ -95,7 +98,8 @@ impl<T: Told> TurnLock<T> {
         Turn { value }
     }
 
-    /// Gives the value back, and ends the turn.
+    /// Gives the value back, and ends the turn. What was added to the story bears the number of the pass, which notes it
+    /// as its own. It waits for nobody, and takes no memory.
     pub fn give(&self, turn: Turn<T>, pass: &mut Pass<T>)
         requires lock { pass.old.lock ≡ self.now.id }
         requires out { pass.old.out ≡ true }
@@ -103,7 +107,8 @@ impl<T: Told> TurnLock<T> {
         requires story { StartsWith (T.story turn) pass.old.seen }
         requires own { AllBear T.bearer pass.old.number (added pass.old.seen (T.story turn)) }
         requires mark { pass.old.mark ≤ T.mark turn }
-        ensures { pass.new ≡ record pass.old { out = false; seen = T.story turn; mark = T.mark turn; own = pass.old.own ++ added pass.old.seen (T.story turn) } }
+        ensures { pass.new
+            ≡ record pass.old { out = false; seen = T.story turn; mark = T.mark turn; own = pass.old.own ++ added pass.old.seen (T.story turn) } }
     {
         let Turn { value } = turn;
         serve(&self.table.shared, &mut pass.seat, value);
@@ -117,7 +122,7 @@ impl<T: Told> TurnLock<T> {
         }
     }
 
-    /// The mark, by one load. It waits for nobody.
+    /// The mark of the value that was given last, or that is just being given. It is one load, and waits for nobody.
     pub fn mark(&self, pass: &mut Pass<T>) -> u64
         requires lock { pass.old.lock ≡ self.now.id }
         ensures pass { pass.new ≡ record pass.old { mark = result; loads = pass.old.loads + 1; loaded = result } }
@@ -127,12 +132,15 @@ impl<T: Told> TurnLock<T> {
         self.table.shared.load::<ReadsMark>(&mut pass.seat, MARKED)
     }
 
-    /// Ends the lock and gives its value. It wants all passes, none of which has a turn out.
+    /// Ends the lock and gives its value. It wants all its passes, none of which has a turn out.
     pub fn close(self, mut passes: Vec<Pass<T>>) -> T
         requires idle { All (IsIdle self.id) passes.items }
-        requires all { (n : ℕ) → n < self.id.seats → (p : Known T.Name T.Entry) × Contains passes.items p × (p.number ≡ n) }
+        requires all { (n : ℕ) → n < self.id.seats
+            → (p : Known T.Name T.Entry) × Contains passes.items p × (p.number ≡ n) }
         ensures name { T.name result ≡ self.name }
-        ensures passes { All (λ (p : Known T.Name T.Entry). StartsWith (T.story result) p.seen × (borne T.bearer p.number (T.story result) ≡ p.own)) passes.items }
+        ensures passes { All
+            (λ (p : Known T.Name T.Entry). StartsWith (T.story result) p.seen × (borne T.bearer p.number (T.story result) ≡ p.own))
+            passes.items }
         ensures others { (n : ℕ) → self.id.seats ≤ n → borne T.bearer n (T.story result) ≡ [] }
     {
         let TurnLock {

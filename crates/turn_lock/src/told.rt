@@ -1,6 +1,6 @@
 ghost use Rattle.std.specs.Prelude.{◌≡◌, ℕ, ◌≤◌, List};
 
-/// A value with a story, which threads may hand to one another under a turn lock.
+/// A value with a name, a story and a mark, which threads hand to one another under a `TurnLock`.
 pub trait Told: Drop {
     /// What never changes.
     type Name;

@@ -1,4 +1,4 @@
-use Rattle.std.proofs.Common.{rules, arith, ◌∷◌, Some, ap, sym, ◌∙◌}
+use Rattle.std.proofs.Common.{rules, ◌∷◌, Some, ap, ◌∙◌}
 use Rattle.std.proofs.lemmas.List.Elements.{All-pop}
 use Rattle.turn_lock.specs.Known.{IsIdle}
 use Rattle.turn_lock.specs.Ending.{joined_of}

@@ -1,4 +1,4 @@
-use Rattle.std.proofs.Common.{rules, arith, ◌≡◌, ◌<◌, sym, ap, ◌∙◌, length, get_or, remove}
+use Rattle.std.proofs.Common.{arith, sym, ap, ◌∙◌, length, get_or, remove}
 use Rattle.turn_lock.proofs.Gathering.{taken_or_left, was_there}
 use Rattle.turn_lock.proofs.close.take_first.Goals as goal
 

@@ -1,4 +1,4 @@
-use Rattle.std.proofs.Common.{rules, arith, ◌≡◌, Some, None, subst, sym}
+use Rattle.std.proofs.Common.{◌≡◌, Some, subst}
 use Rattle.turn_lock.specs.Ending.{IsLeft}
 use Rattle.turn_lock.proofs.Joins.{ends}
 use Rattle.turn_lock.proofs.Gathering.{slot_is, some_is}

@@ -1,4 +1,4 @@
-use Rattle.std.proofs.Common.{rules, arith, ap, ◌∙◌}
+use Rattle.std.proofs.Common.{rules, ap}
 use Rattle.turn_lock.proofs.Turns.{looks}
 use Rattle.turn_lock.proofs.deal.begin.Goals as goal
 

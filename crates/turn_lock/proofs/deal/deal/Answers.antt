@@ -1,4 +1,4 @@
-use Rattle.std.proofs.Common.{rules, arith, ℕ, ◌+◌, ◌-◌, ◌≡◌, ◌<◌, ap, sym, ◌∙◌, refl, vec_len, vec_capacity, length, [], ◌∷◌, ◌++◌, map}
+use Rattle.std.proofs.Common.{rules, arith, ℕ, ◌+◌, ◌-◌, ◌≡◌, ap, sym, ◌∙◌, length, [], ◌∷◌, ◌++◌, map}
 use Rattle.std.proofs.lemmas.List.FromFn.{length-map-range_with_len, map-range_with_len_more}
 use Rattle.std.specs.List.{range_with_len}
 use Rattle.turn_lock.specs.Known.{Known}

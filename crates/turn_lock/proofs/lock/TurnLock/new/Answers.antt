@@ -1,4 +1,4 @@
-use Rattle.std.proofs.Common.{rules, arith, ◌≡◌, ◌-◌, ◌<◌, ap, sym, ◌∙◌, length, vec_len, vec_capacity, ◌∷◌, true, false}
+use Rattle.std.proofs.Common.{arith, ◌≡◌, ◌-◌, ◌<◌, ap, ◌∙◌, length, vec_len, vec_capacity, ◌∷◌, true, false}
 use Rattle.std.proofs.lemmas.List.FromFn.{length-map-range_with_len}
 use Rattle.turn_lock.specs.Passes.{known_of}
 use Rattle.turn_lock.proofs.Joins.{opens}
