@@ -1,0 +1,7 @@
+pub mod Story
+pub mod Known
+pub mod Rule
+pub mod Steps
+pub mod Passes
+pub mod Turned
+pub mod Ending
