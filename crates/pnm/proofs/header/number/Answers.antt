@@ -1,4 +1,4 @@
-use Rattle.std.proofs.Common.{◌≡◌, ◌<◌, ◌≤◌, ◌*◌, ◌+◌, ◌^◌, length, ap, sym, ◌∙◌, arith}
+use Rattle.std.proofs.Common.{◌≡◌, ◌*◌, ◌+◌, length, ap, ◌∙◌, arith}
 use Rattle.pnm.proofs.NumberLemmas.{number_gives, digits_step, pow_step}
 use Rattle.pnm.proofs.header.number.Goals as goal
 

@@ -1,4 +1,4 @@
-use Rattle.std.proofs.Common.{◌≡◌, ℕ, List, ◌∷◌, ◌++◌, [], refl, ap, arith}
+use Rattle.std.proofs.Common.{◌≡◌, ◌∷◌, ◌++◌, refl, ap, arith}
 use Rattle.std.specs.Fmt.{decimal}
 use Rattle.pnm.proofs.HeaderLemmas.{at_width, at_height, from_height}
 use Rattle.pnm.proofs.header.sides.Goals as goal

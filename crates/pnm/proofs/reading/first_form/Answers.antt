@@ -1,4 +1,4 @@
-use Rattle.std.proofs.Common.{◌≡◌, ℕ, List, ◌*◌, ◌++◌, take, drop, refl, ap, ◌∙◌, sym, length, arith}
+use Rattle.std.proofs.Common.{◌≡◌, ℕ, List, ◌*◌, ◌++◌, drop, refl, ap, ◌∙◌, sym, arith}
 use Rattle.std.proofs.lemmas.List.{take-append-drop, length-take}
 use Rattle.pnm.specs.Pnm.{header}
 use Rattle.pnm.proofs.reading.first_form.Goals as goal

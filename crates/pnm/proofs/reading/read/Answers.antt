@@ -1,7 +1,6 @@
-use Rattle.std.proofs.Common.{◌≡◌, ℕ, List, ◌*◌, ◌++◌, refl, ap, ◌∙◌, sym, length, arith}
+use Rattle.std.proofs.Common.{ap, ◌∙◌, length, arith}
 use Rattle.std.proofs.lemmas.List.{length-map}
-use Rattle.pnm.specs.Pnm.{scaled}
-use Rattle.pnm.proofs.SampleLemmas.{scaled_all_top, picture_from_values}
+use Rattle.pnm.proofs.SampleLemmas.{scaled_all_top}
 use Rattle.pnm.proofs.reading.read.Goals as goal
 
 pub returns-in_default-clause-fault : goal.returns-in_default-clause-fault
