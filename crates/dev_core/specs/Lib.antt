@@ -1,0 +1,7 @@
+pub mod Room
+pub mod Shown
+pub mod Subject
+pub mod Jobs
+pub mod Desk
+pub mod Lines
+pub mod DeskState

@@ -1,0 +1,196 @@
+//! The desk as its journal leaves it: a fold over the entries.
+ghost use Rattle.std.specs.Prelude.{◌≡◌, ◌↔◌, ◌+◌, ◌^◌, ◌<◌, IsTrue};
+ghost use Rattle.dev_core.specs.Desk.{start, next, at, put, no_slot, held_by, is_kept, IsBehind, IsReached};
+
+use crate::entry::Entry;
+use outside::Pipe;
+
+/// Who has a pipe, and the moment that its job shows.
+#[derive(Clone, Copy, Debug)]
+pub(crate) struct Hold {
+    pub(crate) worker: u32,
+    pub(crate) moment: u32,
+}
+
+/// A pipe: its job, where it is out, and the moment that was published last.
+#[derive(Clone, Copy, Debug)]
+pub(crate) struct Slot {
+    pub(crate) hold: Option<Hold>,
+    pub(crate) published: Option<u32>,
+}
+
+#[derive(Clone, Copy, Debug)]
+pub(crate) struct Slots {
+    pub(crate) full: Slot,
+    pub(crate) preview: Slot,
+}
+
+/// How many steps were made, the moment, whether the editor has closed, and the pipes.
+#[derive(Clone, Copy, Debug)]
+pub(crate) struct Desk {
+    pub(crate) steps: u32,
+    pub(crate) moment: u32,
+    pub(crate) closed: bool,
+    pub(crate) slots: Slots,
+}
+
+// A pipe that has no job out and was never published.
+fn no_slot() -> Slot
+    ensures { result ≡ no_slot }
+{
+    Slot {
+        hold: None,
+        published: None,
+    }
+}
+
+// The pipes that a desk keeps up to date.
+fn is_kept(pipe: Pipe) -> bool
+    ensures { result ≡ is_kept pipe }
+{
+    match pipe {
+        Pipe::Full => true,
+        Pipe::Preview => false,
+    }
+}
+
+impl Slots {
+    pub(crate) fn at(self, pipe: Pipe) -> Slot
+        ensures { result ≡ at self pipe }
+    {
+        match pipe {
+            Pipe::Full => self.full,
+            Pipe::Preview => self.preview,
+        }
+    }
+
+    fn put(self, pipe: Pipe, slot: Slot) -> Slots
+        ensures { result ≡ put self pipe slot }
+    {
+        match pipe {
+            Pipe::Full => Slots {
+                full: slot,
+                preview: self.preview,
+            },
+            Pipe::Preview => Slots {
+                full: self.full,
+                preview: slot,
+            },
+        }
+    }
+
+    // A job of the pipe is out.
+    fn taken(self, pipe: Pipe, worker: u32, moment: u32) -> Slots
+        ensures { result ≡ put self pipe (record { hold = held_by worker moment; published = (at self pipe).published }) }
+    {
+        let published = self.at(pipe).published;
+        self.put(
+            pipe,
+            Slot {
+                hold: Some(Hold { worker, moment }),
+                published,
+            },
+        )
+    }
+
+    // No job of the pipe is out.
+    fn freed(self, pipe: Pipe, published: Option<u32>) -> Slots
+        ensures { result ≡ put self pipe (record { hold = None; published = published }) }
+    {
+        self.put(
+            pipe,
+            Slot {
+                hold: None,
+                published,
+            },
+        )
+    }
+}
+
+impl Desk {
+    /// The desk before the first entry.
+    pub(crate) fn start() -> Desk
+        ensures { result ≡ start }
+    {
+        Desk {
+            steps: 0,
+            moment: 0,
+            closed: false,
+            slots: Slots {
+                full: no_slot(),
+                preview: no_slot(),
+            },
+        }
+    }
+
+    /// Whether the pipe is free, and what it published last is of an earlier moment.
+    pub(crate) fn is_behind(self, pipe: Pipe) -> bool
+        ensures { IsTrue result ↔ IsBehind self pipe }
+    {
+        let slot = self.slots.at(pipe);
+        if !is_kept(pipe) || slot.hold.is_some() {
+            return false;
+        }
+        match slot.published {
+            None => true,
+            Some(moment) => moment < self.moment,
+        }
+    }
+
+    /// Whether the pipe is free, and has published the present moment.
+    pub(crate) fn is_reached(self, pipe: Pipe) -> bool
+        ensures { IsTrue result ↔ IsReached self pipe }
+    {
+        let slot = self.slots.at(pipe);
+        if slot.hold.is_some() {
+            return false;
+        }
+        match slot.published {
+            None => false,
+            Some(moment) => moment >= self.moment,
+        }
+    }
+
+    fn with_slots(self, slots: Slots) -> Desk
+        ensures { result ≡ record self { slots = slots } }
+    {
+        Desk { slots, ..self }
+    }
+
+    /// The desk after one more entry.
+    pub(crate) fn next(self, entry: Entry) -> Desk
+        requires { self.steps + 1 < 2 ^ 32 }
+        ensures { result ≡ next self entry }
+    {
+        match entry {
+            Entry::Changed { moment } => Desk {
+                steps: self.steps + 1,
+                moment,
+                ..self
+            },
+            Entry::Closed => Desk {
+                closed: true,
+                ..self
+            },
+            Entry::Took {
+                pipe,
+                worker,
+                moment,
+            }
+            | Entry::Restarted {
+                pipe,
+                worker,
+                moment,
+            } => { self.with_slots(self.slots.taken(pipe, worker, moment)) }
+            Entry::Published {
+                pipe,
+                worker: _,
+                moment,
+            } => self.with_slots(self.slots.freed(pipe, Some(moment))),
+            Entry::GaveBack { pipe, worker: _ } => {
+                let published = self.slots.at(pipe).published;
+                self.with_slots(self.slots.freed(pipe, published))
+            }
+        }
+    }
+}
