@@ -5,14 +5,13 @@ use Rattle.px.specs.declared.depth.Depth.TheVariants.{Eight}
 use Rattle.px.specs.Picture.{Picture}
 use Rattle.pnm.specs.Pnm.{IsPicture, written}
 use Rattle.outside.specs.Shelf.{Files, held, with_file, PutsInPart}
-use Rattle.edit_script.specs.Steps.{exposure_after}
 use Rattle.edit_script.specs.Reads.{script_of}
-use Rattle.modules_colour.specs.Exposing.{exposed_picture}
+use Rattle.dev_core.specs.Shown.{exposed_at}
 use Rattle.develop_session.specs.Words.{Command}
 
--- the picture with the exposure of the last step, or the picture itself where there is none
+-- the picture that stands after the last step
 abbrev pub developed : List Exposure → Picture → Picture
-developed steps q = unwrap_or (option_map (λ e. exposed_picture e q) (exposure_after steps (length steps))) q
+developed steps q = exposed_at steps (length steps) q
 
 -- a script stands under the name, with these steps
 pub record HasScript (name : List ℕ) (fs : Files) (steps : List Exposure) : Type 0 where

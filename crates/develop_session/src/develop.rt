@@ -1,10 +1,8 @@
 //! `develop`: one picture of one history, from bytes to bytes.
 ghost use Rattle.std.specs.Prelude.{◌≡◌, ℕ, ◌≤◌, List, length, Some, IfOk, IfErr, IfSome, OnOk, OnErr};
 ghost use Rattle.px.specs.declared.kind.PlaneKind.TheVariants.{Rgb};
-ghost use Rattle.px.specs.declared.depth.Depth.TheVariants.{Eight};
-ghost use Rattle.px.specs.Cut.{IsWhole, IsPlane, picture_of};
-ghost use Rattle.px.specs.Picture.{Picture};
-ghost use Rattle.pnm.specs.Pnm.{written};
+ghost use Rattle.px.specs.Cut.{IsWhole, picture_of};
+ghost use Rattle.dev_core.specs.Subject.{IsSource};
 ghost use Rattle.outside.specs.Faults.{Rose, NoneFalls};
 ghost use Rattle.outside.specs.Shelf.{Files};
 ghost use Rattle.develop_session.specs.Develop.{HasScript, HasSource, out_bytes};
@@ -15,11 +13,11 @@ ghost use Rattle.develop_session.specs.Words.{Command};
 use crate::command::Names;
 use crate::devices::{put_file, read_file, tell};
 use crate::status::{Input, Status};
+use dev_core::shown_bytes;
 use edit_script::{Script, ScriptEnd};
-use modules_colour::exposure;
 use outside::{Failed, Said, Shelf};
 use pnm::PnmEnd;
-use px::{Depth, Plane};
+use px::Plane;
 use std::alloc::{AllocError, Global};
 use std::thread::Threads;
 
@@ -73,24 +71,17 @@ fn read_source<S: Shelf>(
     }
 }
 
-// The written bytes of the picture as the script develops it.
+// The written bytes of the picture as the whole script develops it.
 fn develop_bytes<R: Threads + Sync>(
     rt: &R,
     alloc: Global,
     script: &Script,
     plane: &Plane,
 ) -> Result<Vec<u8>, AllocError>
-    requires rgb { plane.now.kind ≡ Rgb }
-    requires whole { IsWhole plane.now }
+    requires { IsSource plane.now }
     ensures { IfOk result (λ b. b.items ≡ out_bytes script.now (picture_of plane.now)) }
 {
-    match script.exposure_at(script.changes()) {
-        None => pnm::write(alloc, plane, Depth::Eight),
-        Some(params) => {
-            let exposed = exposure(rt, alloc, &params, plane, plane.region())?;
-            pnm::write(alloc, &exposed, Depth::Eight)
-        }
-    }
+    shown_bytes(rt, alloc, plane, script.exposure_at(script.changes()))
 }
 
 // Reads, develops and puts; the sides of the picture.
