@@ -1,6 +1,5 @@
 -- what reading a script answers
-use Rattle.std.specs.Prelude.{◌≡◌, ℕ, List, Option, Some, None, Result, Ok, Err}
-use Rattle.params.specs.declared.settings.Exposure.{Exposure}
+use Rattle.std.specs.Prelude.{◌≡◌, Option, Some, None, Result, Ok, Err}
 use Rattle.edit_script.specs.declared.fault.ScriptEnd.{ScriptEnd}
 use Rattle.edit_script.specs.declared.fault.ScriptEnd.TheVariants.{Fault, Memory}
 use Rattle.edit_script.specs.declared.fault.Reason.TheVariants.{Form}

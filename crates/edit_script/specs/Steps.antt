@@ -1,5 +1,5 @@
 -- the steps of a script
-use Rattle.std.specs.Prelude.{ℕ, ◌-◌, ◌≤◌, List, length, slice_get, Option, Some, None, if◌then◌else◌, ◌==◌}
+use Rattle.std.specs.Prelude.{ℕ, ◌-◌, ◌≤◌, List, length, slice_get, Option, None, if◌then◌else◌, ◌==◌}
 use Rattle.std.specs.List.{AllByRecursion}
 use Rattle.params.specs.declared.settings.Exposure.{Exposure}
 use Rattle.params.specs.declared.settings.Params.TheVariants as params

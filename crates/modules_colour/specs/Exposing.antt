@@ -1,5 +1,5 @@
 -- exposure
-use Rattle.std.specs.Prelude.{ℕ, ℤ, pos, ◌-ℤ◌, ◌*ℤ◌}
+use Rattle.std.specs.Prelude.{ℕ, pos, ◌-ℤ◌, ◌*ℤ◌}
 use Rattle.params.specs.declared.settings.Exposure.{Exposure}
 use Rattle.px.specs.Number.{floor_div, clamp}
 use Rattle.px.specs.Picture.{Picture}

@@ -15,6 +15,7 @@ mod region;
 mod row_painter;
 #[cfg(test)]
 mod tests;
+mod view;
 
 pub use depth::Depth;
 pub use editing::repaint;
@@ -24,6 +25,7 @@ pub use painting::{paint, paint_in_turn};
 pub use plane::Plane;
 pub use region::Region;
 pub use row_painter::{ByPixel, ByValue, RowPainter};
+pub use view::{BoxSize, View};
 
 /// The greatest value of a sample. White stands at `WHITE`; what is above it is kept for later
 /// modules.

@@ -13,4 +13,4 @@ returns g c =
     let plane = c.args.plane.now in
     let last = c.exposure_at.ensures.value ∙ ap (exposure_after c.args.script.now) c.changes.ensures.count in
     IfOk-weaker c.shown_bytes.result _ _
-      (λ b bytes. bytes (picture_of plane) (part_of_self plane) ∙ ap (λ e. written (exposed_by e (picture_of plane)) Eight) last) c.shown_bytes.ensures
+    (λ b bytes. bytes (picture_of plane) (part_of_self plane) ∙ ap (λ e. written (exposed_by e (picture_of plane)) Eight) last) c.shown_bytes.ensures
