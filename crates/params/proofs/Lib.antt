@@ -1,3 +1,4 @@
 pub mod Faults
 pub mod FormLemmas
 pub mod ReadLemmas
+pub mod AgainLemmas

@@ -5,3 +5,4 @@ pub mod Nodes
 pub mod Form
 pub mod Stated
 pub mod Read
+pub mod Written

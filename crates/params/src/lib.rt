@@ -18,6 +18,7 @@ mod rules;
 mod settings;
 mod stated;
 mod widen;
+mod writing;
 
 pub use blending::{Blend, Mode, Shape, mode_named};
 pub use checks::{check, check_blend};
