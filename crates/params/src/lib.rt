@@ -29,3 +29,4 @@ pub use reading::{blend_of_json, of_json};
 pub use settings::{
     ChannelMixer, Crop, Exposure, Orientation, Params, RawPrepare, Temperature, ToneCurve, copy,
 };
+pub use writing::{blend_to_json, to_json};

@@ -1,7 +1,10 @@
 //! Settings and blends, as JSON.
-ghost use Rattle.std.specs.Prelude.{◌≡◌, ◌≤◌, IfOk, pos};
+ghost use Rattle.std.specs.Prelude.{◌≡◌, ◌≤◌, IfOk, IfSome, pos};
 ghost use Rattle.serde_json.specs.Data.{null};
 ghost use Rattle.serde_json.specs.View.{view, items_view};
+ghost use Rattle.std.specs.Option.{option_copied};
+ghost use Rattle.params.specs.Ranges.{IsWithin, IsBlendWithin, module_of};
+ghost use Rattle.params.specs.Read.{params_of, blend_of};
 ghost use Rattle.params.specs.Written.{raw_data, temperature_data, orientation_data, crop_data, exposure_data, mixer_data, node_data, nodes_data, curve_data, shape_data, mask_data, blend_value_data, params_data, blend_data, naturals_data, row_data};
 
 use crate::blending::{Blend, Shape};
@@ -161,4 +164,43 @@ fn blend_value_data(alloc: Global, blend: &Blend) -> Result<Value, AllocError>
         "mode": blend.mode.name(),
         (Field::Opacity.name()): blend.opacity
     })
+}
+
+fn params_data(alloc: Global, params: &Params) -> Result<Value, AllocError>
+    ensures { IfOk result (λ v. view v ≡ params_data params.now) }
+{
+    match params {
+        Params::RawPrepare(raw) => raw_data(alloc, raw),
+        Params::Temperature(temperature) => temperature_data(alloc, temperature),
+        Params::Demosaic => json!(in alloc; {}),
+        Params::Orientation(orientation) => orientation_data(alloc, orientation),
+        Params::Crop(crop) => crop_data(alloc, crop),
+        Params::Exposure(exposure) => exposure_data(alloc, exposure),
+        Params::ChannelMixer(mixer) => mixer_data(alloc, mixer),
+        Params::ToneCurve(curve) => curve_data(alloc, curve),
+    }
+}
+
+/// The JSON form of settings that are within their ranges. Read for the same module, it gives the
+/// settings again.
+#[tactic(auto, using(crate::proofs::AgainLemmas::params_again))]
+pub fn to_json(alloc: Global, params: &Params) -> Result<Value, AllocError>
+    requires within { IsWithin params.now }
+    ensures value { IfOk result (λ v. view v ≡ params_data params.now) }
+    ensures again { IfOk result (λ v. params_of (module_of params.now) (view v) ≡ Ok params.now) }
+{
+    params_data(alloc, params)
+}
+
+/// The JSON form of a blend that is within its ranges, or null for none. Read, it gives the same again.
+#[tactic(auto, using(crate::proofs::AgainLemmas::blend_again))]
+pub fn blend_to_json(alloc: Global, blend: Option<&Blend>) -> Result<Value, AllocError>
+    requires within { IfSome (option_copied blend) IsBlendWithin }
+    ensures value { IfOk result (λ v. view v ≡ blend_data (option_copied blend.entry)) }
+    ensures again { IfOk result (λ v. blend_of (view v) ≡ Ok (option_copied blend.entry)) }
+{
+    match blend {
+        None => Ok(Value::Null),
+        Some(blend) => blend_value_data(alloc, blend),
+    }
 }
