@@ -78,7 +78,6 @@ raw_again p h =
     ap (λ o. or_form o (λ s. if_kept (raw_entries s) (raw_of s))) (raw_stated p h)
     ∙ kept_again (raw_entries (stated_raw p)) _ p h.1 (λ i. record { black = three_again p.black h.0 i; white = p.white })
 
-
 temperature_stated : (p : Temperature) → IsTemperatureWithin p → temperature_form (temperature_data p) ≡ Some (wide_three p.mul)
 unfolding temperature_form temperature_data
 temperature_stated p h =
@@ -223,5 +222,5 @@ pub blend_again : (o : Option Blend) → IfSome o IsBlendWithin → blend_of (bl
 blend_again None h = refl
 blend_again (Some b) h =
     rw (object_blend b) (
-      ap (λ o. or_form (option_map Some o) blend_kept) (blend_stated b h)
-      ∙ kept_again (blend_entries (stated_blend b)) _ (Some b) h (λ i. Some (record { opacity = b.opacity; mode = b.mode; mask = mask_back b.mask i })))
+    ap (λ o. or_form (option_map Some o) blend_kept) (blend_stated b h)
+    ∙ kept_again (blend_entries (stated_blend b)) _ (Some b) h (λ i. Some (record { opacity = b.opacity; mode = b.mode; mask = mask_back b.mask i })))

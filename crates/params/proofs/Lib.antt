@@ -4,3 +4,4 @@ pub mod ReadLemmas
 pub mod AgainLemmas
 pub mod WithinLemmas
 pub mod TextLemmas
+pub mod DepthLemmas

@@ -1,6 +1,7 @@
 //! Settings and blends, as JSON.
-ghost use Rattle.std.specs.Prelude.{◌≡◌, ◌≤◌, IfOk, IfSome, pos};
-ghost use Rattle.serde_json.specs.Data.{null};
+ghost use Rattle.std.specs.Prelude.{◌≡◌, ◌≤◌, IfOk, IfSome, pos, length, false};
+ghost use Rattle.serde_json.specs.Data.{null, depth};
+ghost use Rattle.serde_json.specs.Written.{compact_text, has_float};
 ghost use Rattle.serde_json.specs.View.{view, items_view};
 ghost use Rattle.std.specs.Option.{option_copied};
 ghost use Rattle.params.specs.Ranges.{IsWithin, IsBlendWithin, module_of};
@@ -183,24 +184,36 @@ fn params_data(alloc: Global, params: &Params) -> Result<Value, AllocError>
 
 /// The JSON form of settings that are within their ranges. Read for the same module, it gives the
 /// settings again.
-#[tactic(auto, using(crate::proofs::AgainLemmas::params_again))]
+#[tactic(auto, using(crate::proofs::AgainLemmas::params_again, crate::proofs::TextLemmas::params_short, crate::proofs::DepthLemmas::params_exact, crate::proofs::DepthLemmas::params_depth))]
 pub fn to_json(alloc: Global, params: &Params) -> Result<Value, AllocError>
     requires within { IsWithin params.now }
     ensures value { IfOk result (λ v. view v ≡ params_data params.now) }
     ensures again { IfOk result (λ v. params_of (module_of params.now) (view v) ≡ Ok params.now) }
+    ensures short { IfOk result (λ v. length (compact_text (view v)) ≤ 372) }
+    ensures exact { IfOk result (λ v. has_float (view v) ≡ false) }
+    ensures depth { IfOk result (λ v. depth (view v) ≤ 3) }
 {
     params_data(alloc, params)
 }
 
-/// The JSON form of a blend that is within its ranges, or null for none. Read, it gives the same again.
-#[tactic(auto, using(crate::proofs::AgainLemmas::blend_again))]
-pub fn blend_to_json(alloc: Global, blend: Option<&Blend>) -> Result<Value, AllocError>
-    requires within { IfSome (option_copied blend) IsBlendWithin }
-    ensures value { IfOk result (λ v. view v ≡ blend_data (option_copied blend.entry)) }
-    ensures again { IfOk result (λ v. blend_of (view v) ≡ Ok (option_copied blend.entry)) }
+fn blend_data(alloc: Global, blend: Option<&Blend>) -> Result<Value, AllocError>
+    ensures { IfOk result (λ v. view v ≡ blend_data (option_copied blend.entry)) }
 {
     match blend {
         None => Ok(Value::Null),
         Some(blend) => blend_value_data(alloc, blend),
     }
+}
+
+/// The JSON form of a blend that is within its ranges, or null for none. Read, it gives the same again.
+#[tactic(auto, using(crate::proofs::AgainLemmas::blend_again, crate::proofs::TextLemmas::blend_short, crate::proofs::DepthLemmas::blend_exact, crate::proofs::DepthLemmas::blend_depth))]
+pub fn blend_to_json(alloc: Global, blend: Option<&Blend>) -> Result<Value, AllocError>
+    requires within { IfSome (option_copied blend) IsBlendWithin }
+    ensures value { IfOk result (λ v. view v ≡ blend_data (option_copied blend.entry)) }
+    ensures again { IfOk result (λ v. blend_of (view v) ≡ Ok (option_copied blend.entry)) }
+    ensures short { IfOk result (λ v. length (compact_text (view v)) ≤ 200) }
+    ensures exact { IfOk result (λ v. has_float (view v) ≡ false) }
+    ensures depth { IfOk result (λ v. depth (view v) ≤ 2) }
+{
+    blend_data(alloc, blend)
 }
