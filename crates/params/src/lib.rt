@@ -30,3 +30,6 @@ pub use settings::{
     ChannelMixer, Crop, Exposure, Orientation, Params, RawPrepare, Temperature, ToneCurve, copy,
 };
 pub use writing::{blend_to_json, to_json};
+
+#[cfg(test)]
+mod tests;
