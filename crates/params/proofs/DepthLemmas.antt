@@ -1,6 +1,5 @@
 -- What is written has no float, and little depth.
 use Rattle.std.proofs.Common.{◌≡◌, ℕ, ◌≤◌, ℤ, pos, negsuc, List, [], ◌∷◌, false, Option, Some, None, refl, arith, lit≤}
-use Rattle.std.specs.List.{slice_index_or}
 use Rattle.serde_json.specs.Data.{depth, items_depth}
 use Rattle.serde_json.specs.Find.{is_float, of_integer}
 use Rattle.serde_json.specs.Written.{has_float, items_have_float}

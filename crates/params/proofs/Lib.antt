@@ -5,3 +5,4 @@ pub mod AgainLemmas
 pub mod WithinLemmas
 pub mod TextLemmas
 pub mod DepthLemmas
+pub mod CurveLemmas

@@ -1,27 +1,24 @@
 -- What is read is within the ranges.
-use Rattle.std.proofs.Common.{◌≡◌, ℕ, ◌+◌, ℤ, pos, negsuc, ◌≤ℤ◌, List, [], ◌∷◌, Option, Some, None, option_map, IfSome, IfOk, Result, Ok, Err, refl, sym, ap, ◌∙◌, subst, arith}
+use Rattle.std.proofs.Common.{◌≡◌, ℕ, ◌+◌, ℤ, pos, negsuc, ◌≤ℤ◌, List, [], ◌∷◌, Option, Some, None, option_map, IfSome, IfOk, Result, Ok, Err, refl, sym, subst, arith}
 use Rattle.std.specs.Bool.{⊤}
 use Rattle.std.specs.List.{AllByRecursion}
 use Rattle.std.proofs.lemmas.Int.{ints}
 use Rattle.serde_json.specs.Data.{Data}
 use Rattle.params.specs.Form.{natural_of}
 use Rattle.params.specs.Rules.{first_fault, AllKept, IsKept}
-use Rattle.params.specs.Ranges.{Triple, stated_raw, stated_crop, stated_exposure, stated_mixer, stated_shape, stated_blend, wide_three, wide_nodes, raw_entries, temperature_entries, crop_entries, exposure_entries, mixer_entries, nodes_entries, curve_entries, mask_entries, blend_entries, IsRawWithin, IsTemperatureWithin, IsCropWithin, IsExposureWithin, IsMixerWithin, IsCurveWithin, IsWithin, IsBlendWithin, module_of}
+use Rattle.params.specs.Ranges.{Triple, stated_raw, stated_crop, stated_exposure, stated_shape, stated_blend, wide_three, wide_nodes, raw_entries, temperature_entries, crop_entries, exposure_entries, mixer_entries, nodes_entries, curve_entries, mask_entries, blend_entries, IsRawWithin, IsTemperatureWithin, IsCropWithin, IsExposureWithin, IsMixerWithin, IsCurveWithin, IsWithin, IsBlendWithin, module_of}
 use Rattle.params.specs.Stated.{raw_form, temperature_form, crop_form, exposure_form, mixer_form, curve_form, blend_form, null_or}
-use Rattle.params.specs.Read.{raw_of, naturals_of, temperature_of, crop_of, exposure_of, mixer_of, node_of, nodes_of, curve_of, shape_of, blend_value, or_form, unless_fault, if_kept, raw_read, temperature_read, demosaic_read, orientation_read, crop_read, exposure_read, mixer_read, curve_read, read_as, params_of, blend_kept, blend_of, IsReading}
+use Rattle.params.specs.Read.{raw_of, naturals_of, temperature_of, crop_of, exposure_of, mixer_of, nodes_of, curve_of, shape_of, blend_value, or_form, unless_fault, if_kept, raw_read, temperature_read, demosaic_read, orientation_read, crop_read, exposure_read, mixer_read, curve_read, read_as, params_of, blend_kept, blend_of, IsReading}
 use Rattle.params.specs.declared.blending.Blend.{Blend}
-use Rattle.params.specs.declared.blending.Shape.{Shape}
 use Rattle.params.specs.declared.fault.Field.{Field}
 use Rattle.params.specs.declared.fault.Field.TheVariants.{Nodes}
 use Rattle.params.specs.declared.fault.ParamFault.{ParamFault}
 use Rattle.params.specs.declared.fault.JsonEnd.{JsonEnd}
-use Rattle.params.specs.declared.fault.JsonEnd.TheVariants.{Form, Param, Memory}
 use Rattle.params.specs.declared.modules.Module.{Module}
 use Rattle.params.specs.declared.modules.Module.TheVariants as modules
 use Rattle.params.specs.declared.rules.Entry.{Entry}
 use Rattle.params.specs.declared.settings.Params.{Params}
 use Rattle.params.specs.declared.settings.Params.TheVariants as params
-use Rattle.params.specs.declared.settings.Crop.{Crop}
 use Rattle.params.specs.declared.stated.StatedRaw.{StatedRaw}
 use Rattle.params.specs.declared.stated.StatedCrop.{StatedCrop}
 use Rattle.params.specs.declared.stated.StatedExposure.{StatedExposure}

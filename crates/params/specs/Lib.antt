@@ -6,3 +6,4 @@ pub mod Form
 pub mod Stated
 pub mod Read
 pub mod Written
+pub mod Curve

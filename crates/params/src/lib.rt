@@ -8,7 +8,6 @@ mod curve;
 mod curve_form;
 mod fault;
 pub mod form;
-mod forms;
 mod modules;
 mod narrow;
 mod nodes;
@@ -17,6 +16,7 @@ mod reading;
 mod rules;
 mod settings;
 mod stated;
+mod stated_form;
 mod widen;
 mod writing;
 

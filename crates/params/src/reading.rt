@@ -7,10 +7,6 @@ ghost use Rattle.params.specs.Read.{raw_read, temperature_read, demosaic_read, o
 use crate::blending::Blend;
 use crate::curve_form::{curve_form, curve_of};
 use crate::fault::{Field, JsonEnd};
-use crate::forms::{
-    blend_form, crop_form, demosaic_form, exposure_form, mixer_form, orientation_form, raw_form,
-    temperature_form,
-};
 use crate::modules::Module;
 use crate::narrow::{blend_of, crop_of, exposure_of, mixer_of, raw_of, temperature_of};
 use crate::nodes::Nodes20;
@@ -20,6 +16,10 @@ use crate::ranges::{
 use crate::rules::first_fault;
 use crate::settings::{
     ChannelMixer, Crop, Exposure, Orientation, Params, RawPrepare, Temperature, ToneCurve,
+};
+use crate::stated_form::{
+    blend_form, crop_form, demosaic_form, exposure_form, mixer_form, orientation_form, raw_form,
+    temperature_form,
 };
 use serde_json::Value;
 use std::alloc::Global;
