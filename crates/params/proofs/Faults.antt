@@ -1,5 +1,5 @@
 -- The first fault of a list of entries.
-use Rattle.std.proofs.Common.{◌≡◌, ℕ, ◌+◌, ◌<◌, ◌≤◌, ℤ, pos, negsuc, ◌≤ℤ◌, ◌<ℤ◌, Bool, true, false, List, [], ◌∷◌, ◌++◌, length, get_or, drop, Result, Ok, Err, IsOk, OnOk, ◌↔◌, refl, sym, ap, ◌∙◌, arith}
+use Rattle.std.proofs.Common.{◌≡◌, ℕ, ◌+◌, ◌<◌, ◌≤◌, ℤ, pos, negsuc, ◌≤ℤ◌, ◌<ℤ◌, Bool, true, false, List, [], ◌∷◌, ◌++◌, length, get_or, drop, Option, Some, None, Result, Ok, Err, IsOk, IsTrue, OnOk, ◌↔◌, refl, sym, ap, ◌∙◌, arith}
 use Rattle.std.specs.Bool.{⊤, Decides, if◌then◌else◌}
 use Rattle.std.specs.List.{AllByRecursion}
 use Rattle.std.specs.Int.RustNames.{int_le, int_lt}
@@ -7,7 +7,9 @@ use Rattle.std.proofs.lemmas.Bool.Decides.{Decides-int_eq, Decides-and, Decides-
 use Rattle.std.proofs.lemmas.Int.{ints}
 use Rattle.std.proofs.lemmas.List.{at_drop_more, at_drop_all, drop_more}
 use Rattle.params.specs.Rules.{IsKept, first_fault, held, or_else, keeps, Keeps, AllKept, fault_at}
-use Rattle.params.specs.Ranges.{node_entries, nodes_entries, count_entry, curve_entries}
+use Rattle.params.specs.Ranges.{node_entries, nodes_entries, count_entry, curve_entries, check_blend_of, IsBlendFit, blends, blend_fault, blend_entries, stated_blend}
+use Rattle.params.specs.declared.blending.Blend.{Blend}
+use Rattle.params.specs.declared.modules.Module.{Module}
 use Rattle.params.specs.declared.rules.Entry.{Entry}
 use Rattle.params.specs.declared.rules.Rule.{Rule}
 use Rattle.params.specs.declared.rules.Rule.TheVariants.{Between, Above, NotBothZero}
@@ -84,6 +86,18 @@ kept_on_ok es (Err f) e = tt
 pub within_tells : (es : List Entry) (r : Result ⊤ ParamFault) → r ≡ first_fault es → IsOk r ↔ AllKept es
 within_tells es (Ok t) e = (λ _. all_kept es (sym e), λ _. refl)
 within_tells es (Err f) e = (λ h. cc, λ h. cc (none_at_fault es h))
+
+pub within_sized : {X : Type 0} (xs : List X) (n : ℕ) (es : List Entry) (r : Result ⊤ ParamFault) → length xs ≡ n → r ≡ first_fault es → IsOk r ↔ ((length xs ≡ n) × AllKept es)
+within_sized xs n es r len e = let t = within_tells es r e in (λ h. (len, t.0 h), λ h. t.1 h.1)
+
+fit_at : (b : Bool) (f : ParamFault) (es : List Entry) (r : Result ⊤ ParamFault) → r ≡ (if b then first_fault es else Err f) → IsOk r ↔ (IsTrue b × AllKept es)
+fit_at true f es r e = let t = within_tells es r e in (λ h. (refl, t.0 h), λ h. t.1 h.1)
+fit_at false f es r e = (λ h. cc, λ h. cc (h.0))
+
+-- a blend is fit exactly where its check has no fault
+pub fit_tells : (m : Module) (blend : Option Blend) (r : Result ⊤ ParamFault) → r ≡ check_blend_of m blend → IsOk r ↔ IsBlendFit m blend
+fit_tells m None r e = (λ h. tt, λ h. rw e refl)
+fit_tells m (Some b) r e = fit_at (blends m) blend_fault (blend_entries (stated_blend b)) r e
 
 -- ---- nodes
 

@@ -5,3 +5,5 @@ pub mod Nodes
 pub mod Form
 pub mod Stated
 pub mod Read
+pub mod Written
+pub mod Curve

@@ -8,7 +8,6 @@ mod curve;
 mod curve_form;
 mod fault;
 pub mod form;
-mod forms;
 mod modules;
 mod narrow;
 mod nodes;
@@ -17,7 +16,9 @@ mod reading;
 mod rules;
 mod settings;
 mod stated;
+mod stated_form;
 mod widen;
+mod writing;
 
 pub use blending::{Blend, Mode, Shape, mode_named};
 pub use checks::{check, check_blend};
@@ -28,3 +29,7 @@ pub use reading::{blend_of_json, of_json};
 pub use settings::{
     ChannelMixer, Crop, Exposure, Orientation, Params, RawPrepare, Temperature, ToneCurve, copy,
 };
+pub use writing::{blend_to_json, to_json};
+
+#[cfg(test)]
+mod tests;

@@ -1,15 +1,12 @@
 //! Settings and blends, from JSON.
-ghost use Rattle.std.specs.Prelude.{◌≡◌, ⊤};
+ghost use Rattle.std.specs.Prelude.{◌≡◌, ⊤, IfOk, IfSome};
 ghost use Rattle.serde_json.specs.View.{view};
+ghost use Rattle.params.specs.Ranges.{IsWithin, IsBlendWithin, module_of};
 ghost use Rattle.params.specs.Read.{raw_read, temperature_read, demosaic_read, orientation_read, crop_read, exposure_read, mixer_read, curve_read, params_of, blend_of, IsReading};
 
 use crate::blending::Blend;
 use crate::curve_form::{curve_form, curve_of};
 use crate::fault::{Field, JsonEnd};
-use crate::forms::{
-    blend_form, crop_form, demosaic_form, exposure_form, mixer_form, orientation_form, raw_form,
-    temperature_form,
-};
 use crate::modules::Module;
 use crate::narrow::{blend_of, crop_of, exposure_of, mixer_of, raw_of, temperature_of};
 use crate::nodes::Nodes20;
@@ -20,10 +17,13 @@ use crate::rules::first_fault;
 use crate::settings::{
     ChannelMixer, Crop, Exposure, Orientation, Params, RawPrepare, Temperature, ToneCurve,
 };
+use crate::stated_form::{
+    blend_form, crop_form, demosaic_form, exposure_form, mixer_form, orientation_form, raw_form,
+    temperature_form,
+};
 use serde_json::Value;
 use std::alloc::Global;
 
-#[tactic(auto, using(crate::proofs::Faults::all_kept))]
 fn raw_read(value: &Value) -> Result<RawPrepare, JsonEnd>
     ensures { result ≡ raw_read (view value.now) }
 {
@@ -34,7 +34,6 @@ fn raw_read(value: &Value) -> Result<RawPrepare, JsonEnd>
     Ok(raw_of(&stated))
 }
 
-#[tactic(auto, using(crate::proofs::Faults::all_kept))]
 fn temperature_read(value: &Value) -> Result<Temperature, JsonEnd>
     ensures { result ≡ temperature_read (view value.now) }
 {
@@ -57,7 +56,6 @@ fn orientation_read(value: &Value) -> Result<Orientation, JsonEnd>
     orientation_form(value).ok_or(JsonEnd::Form)
 }
 
-#[tactic(auto, using(crate::proofs::Faults::all_kept))]
 fn crop_read(value: &Value) -> Result<Crop, JsonEnd>
     ensures { result ≡ crop_read (view value.now) }
 {
@@ -68,7 +66,6 @@ fn crop_read(value: &Value) -> Result<Crop, JsonEnd>
     Ok(crop_of(&stated))
 }
 
-#[tactic(auto, using(crate::proofs::Faults::all_kept))]
 fn exposure_read(value: &Value) -> Result<Exposure, JsonEnd>
     ensures { result ≡ exposure_read (view value.now) }
 {
@@ -79,7 +76,6 @@ fn exposure_read(value: &Value) -> Result<Exposure, JsonEnd>
     Ok(exposure_of(&stated))
 }
 
-#[tactic(auto, using(crate::proofs::Faults::all_kept))]
 fn mixer_read(value: &Value) -> Result<ChannelMixer, JsonEnd>
     ensures { result ≡ mixer_read (view value.now) }
 {
@@ -90,7 +86,6 @@ fn mixer_read(value: &Value) -> Result<ChannelMixer, JsonEnd>
     Ok(mixer_of(rows))
 }
 
-#[tactic(auto, using(crate::proofs::Faults::all_kept))]
 fn curve_read(alloc: Global, value: &Value) -> Result<ToneCurve, JsonEnd>
     ensures { IsReading result (curve_read (view value.now)) }
 {
@@ -101,11 +96,8 @@ fn curve_read(alloc: Global, value: &Value) -> Result<ToneCurve, JsonEnd>
     })
 }
 
-/// Reads the settings of a module. `Form` comes exactly where the value hasn't the form of the module's
-/// settings, and `Param` exactly where it has and a number lies outside its range; it has the first such
-/// number, in the order of the fields. `Memory` is want of memory.
-pub fn of_json(alloc: Global, module: Module, value: &Value) -> Result<Params, JsonEnd>
-    ensures value { IsReading result (params_of «module» (view value.now)) }
+fn params_read(alloc: Global, module: Module, value: &Value) -> Result<Params, JsonEnd>
+    ensures { IsReading result (params_of «module» (view value.now)) }
 {
     Ok(match module {
         Module::RawPrepare => Params::RawPrepare(raw_read(value)?),
@@ -122,12 +114,20 @@ pub fn of_json(alloc: Global, module: Module, value: &Value) -> Result<Params, J
     })
 }
 
-/// Reads a blend, or none where the value is null. `Form` comes exactly where the value hasn't the form
-/// of a blend, and `Param` exactly where it has and a number lies outside its range; it has the first
-/// such number, in the order of the fields. No memory is taken.
-#[tactic(auto, using(crate::proofs::Faults::all_kept))]
-pub fn blend_of_json(value: &Value) -> Result<Option<Blend>, JsonEnd>
-    ensures value { result ≡ blend_of (view value.now) }
+/// Reads the settings of a module. `Form` comes exactly where the value hasn't the form of the module's
+/// settings, and `Param` exactly where it has and a number lies outside its range; it has the first such
+/// number, in the order of the fields. `Memory` is want of memory.
+#[tactic(auto, using(crate::proofs::WithinLemmas::params_within_on_ok, crate::proofs::WithinLemmas::params_module_on_ok))]
+pub fn of_json(alloc: Global, module: Module, value: &Value) -> Result<Params, JsonEnd>
+    ensures value { IsReading result (params_of «module» (view value.now)) }
+    ensures within { IfOk result IsWithin }
+    ensures module { IfOk result (λ p. module_of p ≡ «module») }
+{
+    params_read(alloc, module, value)
+}
+
+fn blend_read(value: &Value) -> Result<Option<Blend>, JsonEnd>
+    ensures { result ≡ blend_of (view value.now) }
 {
     if value.is_null() {
         return Ok(None);
@@ -137,4 +137,14 @@ pub fn blend_of_json(value: &Value) -> Result<Option<Blend>, JsonEnd>
     };
     blend_fault(&stated)?;
     Ok(Some(blend_of(&stated)))
+}
+
+/// Reads a blend, or none where the value is null. `Form` comes exactly where the value hasn't the form
+/// of a blend, and `Param` exactly where it has and a number lies outside its range; it has the first
+/// such number, in the order of the fields. No memory is taken.
+pub fn blend_of_json(value: &Value) -> Result<Option<Blend>, JsonEnd>
+    ensures value { result ≡ blend_of (view value.now) }
+    ensures within { IfOk result (λ o. IfSome o IsBlendWithin) }
+{
+    blend_read(value)
 }

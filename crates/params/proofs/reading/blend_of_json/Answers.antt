@@ -1,6 +1,6 @@
-use Rattle.std.proofs.Common.{rules}
-use Rattle.params.proofs.Faults.{all_kept}
+use Rattle.serde_json.specs.View.{view}
+use Rattle.params.proofs.WithinLemmas.{blend_within_on_ok}
 use Rattle.params.proofs.reading.blend_of_json.Goals as goal
 
-pub blend_of-requires : goal.blend_of-requires
-blend_of-requires c = all_kept _ (search rules)
+pub returns-clause-within : goal.returns-clause-within
+returns-clause-within c = blend_within_on_ok c.blend_read.result (view c.args.value.now) c.blend_read.ensures
