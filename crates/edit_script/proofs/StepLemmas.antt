@@ -9,12 +9,6 @@ use Rattle.serde_json.specs.View.{items_view}
 use Rattle.serde_json.specs.declared.value.Value.{Value}
 use Rattle.params.specs.declared.settings.Exposure.{Exposure}
 use Rattle.serde_json.specs.Data.{Data, Items, item}
-use Rattle.params.specs.declared.settings.Params.{Params}
-use Rattle.params.specs.declared.settings.Params.TheVariants as params
-use Rattle.params.specs.declared.fault.JsonEnd.{JsonEnd}
-use Rattle.params.specs.Read.{exposure_read, read_as}
-use Rattle.params.proofs.WithinLemmas.{exposure_within}
-use Rattle.edit_script.specs.Steps.{IsExposure}
 use Rattle.edit_script.specs.Reads.{step_of, steps_of, count_of, script_of}
 
 abbrev pub with_front : List Exposure → Option (List Exposure) → Option (List Exposure)
@@ -52,11 +46,3 @@ script_of_front text bytes front = ⊎_elim
     rw (whole, cut) refl)
     (λ (within : length text ≤ 4194304). ap script_of (sym (take_all 4194305 text (omega arith)) ∙ front))
     (cases_lt 4194304 (length text))
-
-by_read : (r : Result Exposure JsonEnd) (p : Params) (e : Exposure) → read_as params.Exposure r ≡ Ok p → p ≡ params.Exposure e → r ≡ Ok e
-by_read (Ok x) p e read is = let same : x ≡ e = cc in ap Ok same
-by_read (Err f) p e read is = absurd cc
-
--- settings of exposure that are read are within their ranges
-pub read_within : (d : Data) (p : Params) (e : Exposure) → read_as params.Exposure (exposure_read d) ≡ Ok p → p ≡ params.Exposure e → IsExposure e
-read_within d p e read is = exposure_within d e (by_read (exposure_read d) p e read is)
