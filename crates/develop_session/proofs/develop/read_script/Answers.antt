@@ -1,4 +1,4 @@
-use Rattle.std.proofs.Common.{◌≡◌, sym, ap, ◌∙◌}
+use Rattle.std.proofs.Common.{sym, ◌∙◌}
 use Rattle.std.proofs.lemmas.Option.{IfSome_then}
 use Rattle.develop_session.proofs.ReadLemmas.{has_script, has_no_script}
 use Rattle.develop_session.proofs.develop.read_script.Goals as goal
