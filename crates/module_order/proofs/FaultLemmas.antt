@@ -20,9 +20,9 @@ pub find_map-range_some : {Y : Type 0} (f : ℕ → Option Y) (a n i : ℕ) (y :
 find_map-range_some f a zero i y low high none here = absurd (omega arith)
 find_map-range_some f a (suc n) i y low high none here =
     ⊎_elim
-      (λ (below : a < i). rw (none a (omega arith) below) (find_map-range_some f (a + 1) n i y (omega arith) (omega arith) (λ k l h. none k (omega arith) h) here))
-      (λ (above : i ≤ a). let same : i ≡ a = omega arith in rw (subst (λ k. f k ≡ Some y) same here) refl)
-      (cases_lt a i)
+    (λ (below : a < i). rw (none a (omega arith) below) (find_map-range_some f (a + 1) n i y (omega arith) (omega arith) (λ k l h. none k (omega arith) h) here))
+    (λ (above : i ≤ a). let same : i ≡ a = omega arith in rw (subst (λ k. f k ≡ Some y) same here) refl)
+    (cases_lt a i)
 
 pub find_map-range_none : {Y : Type 0} (f : ℕ → Option Y) (a n : ℕ) → ((k : ℕ) → a ≤ k → k < a + n → f k ≡ None) → find_map f (range_with_len a n) ≡ None
 find_map-range_none f a zero none = refl
@@ -31,12 +31,13 @@ find_map-range_none f a (suc n) none = rw (none a (omega arith) (omega arith)) (
 pub find_map-range_passes : {Y : Type 0} (f : ℕ → Option Y) (a n k : ℕ) → find_map f (range_with_len a n) ≡ None → a ≤ k → k < a + n → f k ≡ None
 find_map-range_passes f a zero k none low high = absurd (omega arith)
 find_map-range_passes {Y} f a (suc n) k none low high =
-    (elim (f a) as (λ o. f a ≡ o → slice_get (cons_option o (filter_map f (range_with_len (a + 1) n))) 0 ≡ None → f k ≡ None)
-        [ None ↦ λ here rest. ⊎_elim
-            (λ (below : a < k). find_map-range_passes f (a + 1) n k rest (omega arith) (omega arith))
-            (λ (above : k ≤ a). let same : a ≡ k = omega arith in subst (λ m. f m ≡ None) same here)
-            (cases_lt a k)
-        | Some y ↦ λ here found. cc ]) refl none
+    (elim (f a) as (λ o. f a ≡ o → slice_get (cons_option o (filter_map f (range_with_len (a + 1) n))) 0 ≡ None → f k ≡ None) [
+      | None ↦ λ here rest. ⊎_elim
+          (λ (below : a < k). find_map-range_passes f (a + 1) n k rest (omega arith) (omega arith))
+          (λ (above : k ≤ a). let same : a ≡ k = omega arith in subst (λ m. f m ≡ None) same here)
+          (cases_lt a k)
+      | Some y ↦ λ here found. cc
+    ]) refl none
 
 -- no place of the list up to n has a fault
 abbrev pub PassesUpTo : List Slot → ℕ → Type 0
@@ -67,7 +68,7 @@ PassesUpTo-more slots i passes here k low high =
 pub front_is : (slots : List Slot) → starts_with is_slot slots fixed_slots ≡ true → take 3 slots ≡ fixed_slots
 front_is slots starts =
     let decides : (s x : Slot) → (is_slot s x ≡ true → s ≡ x) × (s ≡ x → is_slot s x ≡ true) =
-            λ s x. (λ h. sym (slot_is s x h), λ e. subst (λ y. is_slot s y ≡ true) e (is_slot-own s)) in
+    λ s x. (λ h. sym (slot_is s x h), λ e. subst (λ y. is_slot s y ≡ true) e (is_slot-own s)) in
     sym ((pointwise_decides decides fixed_slots (take 3 slots)).0 starts)
 
 pub starts-front : (slots : List Slot) → take 3 slots ≡ fixed_slots → starts_with is_slot slots fixed_slots ≡ true
@@ -138,7 +139,7 @@ PassesUpTo-order slots order k low high =
     let movable : 3 ≤ s.module = subst (λ x. 3 ≤ x.module) at_rest (order.movable (k - 3) d (omega (arith, length-drop 3 slots))) in
     let upto : times s (take (k + 1) slots) ≤ 1 = omega (arith, times_front s slots (k + 1), order.distinct s) in
     let split : times s (take (k + 1) slots) ≡ times s (take k slots) + 1 =
-            ap (times s) (take_more slots k d high) ∙ times-append s (take k slots) (s ∷ []) ∙ ap (λ n. times s (take k slots) + n) (times-one s s ∙ ap (λ b. cond {A = ℕ} b 1 0) (is_slot-own s)) in
+    ap (times s) (take_more slots k d high) ∙ times-append s (take k slots) (s ∷ []) ∙ ap (λ n. times s (take k slots) + n) (times-one s s ∙ ap (λ b. cond {A = ℕ} b 1 0) (is_slot-own s)) in
     let absent : has_slot (take k slots) s ≡ false = none_from_times s (take k slots) (omega arith) in
     fault_at-is slots k s high (get_or_default slots k d s high) ∙ none-slot_fault (take k slots) s movable absent
 

@@ -60,15 +60,15 @@ IsOrder-insert xs s place order may =
     let within : place ≤ length xs = may.within in
     let long : length (take place xs) ≡ place = length-take-le place xs within in
     let front : take 3 (insert xs place s) ≡ take 3 xs =
-            take-append-le 3 (take place xs) (s ∷ drop place xs) (omega arith) ∙ take-take 3 place xs free in
+    take-append-le 3 (take place xs) (s ∷ drop place xs) (omega arith) ∙ take-take 3 place xs free in
     let behind : drop 3 (take place xs) ≡ take (place - 3) (drop 3 xs) =
-            subst (λ n. drop 3 (take n xs) ≡ take (place - 3) (drop 3 xs)) (omega arith) (drop-take 3 (place - 3) xs) in
+    subst (λ n. drop 3 (take n xs) ≡ take (place - 3) (drop 3 xs)) (omega arith) (drop-take 3 (place - 3) xs) in
     let above : drop place xs ≡ drop (place - 3) (drop 3 xs) =
-            subst (λ n. drop n xs ≡ drop (place - 3) (drop 3 xs)) (omega arith) (sym (drop-drop (place - 3) 3 xs)) in
+    subst (λ n. drop n xs ≡ drop (place - 3) (drop 3 xs)) (omega arith) (sym (drop-drop (place - 3) 3 xs)) in
     let below = take (place - 3) (drop 3 xs) in
     let above_all = drop (place - 3) (drop 3 xs) in
     let rest : drop 3 (insert xs place s) ≡ below ++ (s ∷ above_all) =
-            drop-append-le 3 (take place xs) (s ∷ drop place xs) (omega arith) ∙ ap (λ ys. ys ++ (s ∷ drop place xs)) behind ∙ ap (λ ys. below ++ (s ∷ ys)) above in
+    drop-append-le 3 (take place xs) (s ∷ drop place xs) (omega arith) ∙ ap (λ ys. ys ++ (s ∷ drop place xs)) behind ∙ ap (λ ys. below ++ (s ∷ ys)) above in
     record {
       few = omega (arith, length-insert xs place s within, may.room);
       front = front ∙ order.front;

@@ -27,26 +27,26 @@ pub times_none : (s : Slot) (xs : List Slot) → has_slot xs s ≡ false → tim
 times_none s [] h = refl
 times_none s (x ∷ xs) h =
     elim (is_slot s x) as (λ b. (b || has_slot xs s) ≡ false → length (cond b (x ∷ filter (is_slot s) xs) (filter (is_slot s) xs)) ≡ 0)
-        [ true ↦ λ e. absurd (false≢true (sym e)) | false ↦ λ e. times_none s xs e ] h
+    [ true ↦ λ e. absurd (false≢true (sym e)) | false ↦ λ e. times_none s xs e ] h
 
 pub none_from_times : (s : Slot) (xs : List Slot) → times s xs ≡ 0 → has_slot xs s ≡ false
 none_from_times s [] h = refl
 none_from_times s (x ∷ xs) h =
     elim (is_slot s x) as (λ b. length (cond b (x ∷ filter (is_slot s) xs) (filter (is_slot s) xs)) ≡ 0 → (b || has_slot xs s) ≡ false)
-        [ true ↦ λ e. absurd (omega arith) | false ↦ λ e. none_from_times s xs e ] h
+    [ true ↦ λ e. absurd (omega arith) | false ↦ λ e. none_from_times s xs e ] h
 
 pub without_none : (s : Slot) (xs : List Slot) → times s xs ≡ 0 → without xs s ≡ xs
 without_none s [] h = refl
 without_none s (x ∷ xs) h =
     elim (is_slot s x) as (λ b. length (cond b (x ∷ filter (is_slot s) xs) (filter (is_slot s) xs)) ≡ 0 → cond (not b) (x ∷ without xs s) (without xs s) ≡ x ∷ xs)
-        [ true ↦ λ e. absurd (omega arith) | false ↦ λ e. ap (λ ys. x ∷ ys) (without_none s xs e) ] h
+    [ true ↦ λ e. absurd (omega arith) | false ↦ λ e. ap (λ ys. x ∷ ys) (without_none s xs e) ] h
 
 -- a slot that stands in the list has a place
 pub has_place : (s : Slot) (xs : List Slot) → has_slot xs s ≡ true → position_or_len (is_slot s) xs < length xs
 has_place s [] h = absurd (false≢true h)
 has_place s (x ∷ xs) h =
     elim (is_slot s x) as (λ b. (b || has_slot xs s) ≡ true → cond {A = ℕ} (not b) (1 + position_or_len (is_slot s) xs) 0 < suc (length xs))
-        [ true ↦ λ e. omega arith | false ↦ λ e. let l = has_place s xs e in omega arith ] h
+    [ true ↦ λ e. omega arith | false ↦ λ e. let l = has_place s xs e in omega arith ] h
 
 -- a slot at a place stands in the list
 pub times_at : (s : Slot) (xs : List Slot) (i : ℕ) → i < length xs → is_slot s (get_or xs i s) ≡ true → 1 ≤ times s xs
@@ -55,27 +55,28 @@ times_at s (x ∷ xs) zero l h = rw h (omega arith)
 times_at s (x ∷ xs) (suc i) l h =
     let t = times_at s xs i (omega arith) h in
     elim (is_slot s x) as (λ b. 1 ≤ length (cond b (x ∷ filter (is_slot s) xs) (filter (is_slot s) xs)))
-        [ true ↦ omega arith | false ↦ t ]
+    [ true ↦ omega arith | false ↦ t ]
 
 -- taking out the one place where the slot stands takes out the slot
 pub remove_is : (s : Slot) (xs : List Slot) (i : ℕ) → i < length xs → is_slot s (get_or xs i s) ≡ true → times s xs ≤ 1 → remove xs i ≡ without xs s
 remove_is s [] i l h d = absurd (omega arith)
 remove_is s (x ∷ xs) zero l h d =
     elim (is_slot s x) as (λ b. b ≡ true → length (cond b (x ∷ filter (is_slot s) xs) (filter (is_slot s) xs)) ≤ 1 → xs ≡ cond (not b) (x ∷ without xs s) (without xs s))
-        [ true ↦ λ e d. sym (without_none s xs (omega arith)) | false ↦ λ e. absurd (false≢true e) ] h d
+    [ true ↦ λ e d. sym (without_none s xs (omega arith)) | false ↦ λ e. absurd (false≢true e) ] h d
 remove_is s (x ∷ xs) (suc i) l h d =
     let t = times_at s xs i (omega arith) h in
     elim (is_slot s x) as (λ b. length (cond b (x ∷ filter (is_slot s) xs) (filter (is_slot s) xs)) ≤ 1 → x ∷ remove xs i ≡ cond (not b) (x ∷ without xs s) (without xs s))
-        [ true ↦ λ d. absurd (omega arith) | false ↦ λ d. ap (λ ys. x ∷ ys) (remove_is s xs i (omega arith) h d) ] d
+    [ true ↦ λ d. absurd (omega arith) | false ↦ λ d. ap (λ ys. x ∷ ys) (remove_is s xs i (omega arith) h d) ] d
 
 -- the filter keeps no more
 pub times_without : (s t : Slot) (xs : List Slot) → times t (without xs s) ≤ times t xs
 times_without s t [] = omega arith
 times_without s t (x ∷ xs) =
     let rest = times_without s t xs in
-    elim (is_slot s x) as (λ b. times t (cond (not b) (x ∷ without xs s) (without xs s)) ≤ length (cond (is_slot t x) (x ∷ filter (is_slot t) xs) (filter (is_slot t) xs)))
-        [ true ↦ elim (is_slot t x) as (λ b. times t (without xs s) ≤ length (cond b (x ∷ filter (is_slot t) xs) (filter (is_slot t) xs))) [ true ↦ omega arith | false ↦ rest ]
-        | false ↦ elim (is_slot t x) as (λ b. length (cond b (x ∷ filter (is_slot t) (without xs s)) (filter (is_slot t) (without xs s))) ≤ length (cond b (x ∷ filter (is_slot t) xs) (filter (is_slot t) xs))) [ true ↦ omega arith | false ↦ rest ] ]
+    elim (is_slot s x) as (λ b. times t (cond (not b) (x ∷ without xs s) (without xs s)) ≤ length (cond (is_slot t x) (x ∷ filter (is_slot t) xs) (filter (is_slot t) xs))) [
+      | true ↦ elim (is_slot t x) as (λ b. times t (without xs s) ≤ length (cond b (x ∷ filter (is_slot t) xs) (filter (is_slot t) xs))) [ true ↦ omega arith | false ↦ rest ]
+      | false ↦ elim (is_slot t x) as (λ b. length (cond b (x ∷ filter (is_slot t) (without xs s)) (filter (is_slot t) (without xs s))) ≤ length (cond b (x ∷ filter (is_slot t) xs) (filter (is_slot t) xs))) [ true ↦ omega arith | false ↦ rest ]
+    ]
 
 -- what stands in two lists, one after the other
 pub times-append : (s : Slot) (xs ys : List Slot) → times s (xs ++ ys) ≡ times s xs + times s ys
@@ -99,13 +100,14 @@ times-insert s t xs i =
 pub distinct_more : (xs : List Slot) (x t : Slot) → has_slot xs x ≡ false → times t xs ≤ 1 → times t xs + cond (is_slot t x) 1 0 ≤ 1
 distinct_more xs x t h d =
     let b = is_slot t x in
-    elim b as (λ v. is_slot t x ≡ v → times t xs + cond v 1 0 ≤ 1)
-        [ true ↦ λ e. let none : times t xs ≡ 0 = subst (λ s. times s xs ≡ 0) (slot_is t x e) (times_none x xs h) in omega arith
-        | false ↦ λ e. omega arith ] refl
+    elim b as (λ v. is_slot t x ≡ v → times t xs + cond v 1 0 ≤ 1) [
+      | true ↦ λ e. let none : times t xs ≡ 0 = subst (λ s. times s xs ≡ 0) (slot_is t x e) (times_none x xs h) in omega arith
+      | false ↦ λ e. omega arith
+    ] refl
 
 -- the slot taken out stands there no more
 pub without_leaves : (s : Slot) (xs : List Slot) → has_slot (without xs s) s ≡ false
 without_leaves s [] = refl
 without_leaves s (x ∷ xs) =
     elim (is_slot s x) as (λ v. is_slot s x ≡ v → has_slot (cond (not v) (x ∷ without xs s) (without xs s)) s ≡ false)
-        [ true ↦ λ e. without_leaves s xs | false ↦ λ e. rw e (without_leaves s xs) ] refl
+    [ true ↦ λ e. without_leaves s xs | false ↦ λ e. rw e (without_leaves s xs) ] refl

@@ -30,25 +30,25 @@ first_fault slots = find_map (fault_at slots) (range_with_len 3 (length slots - 
 -- why a list is no order
 abbrev pub order_fault : List Slot → Option OrderFault
 order_fault slots =
-  if nat_lt 64 (length slots) then Some Full
-  else (if not (starts_with is_slot slots fixed_slots) then Some Rule else first_fault slots)
+    if nat_lt 64 (length slots) then Some Full
+    else (if not (starts_with is_slot slots fixed_slots) then Some Rule else first_fault slots)
 
 -- why a slot can't be put in at a place
 abbrev pub insert_fault : List Slot → Slot → ℕ → Option OrderFault
 insert_fault slots s place =
-  if is_fixed s then Some Fixed
-  else (if has_slot slots s then Some Taken
-  else (if nat_le 64 (length slots) then Some Full
-  else (if nat_lt place 3 || nat_lt (length slots) place then Some Rule else None)))
+    if is_fixed s then Some Fixed
+    else (if has_slot slots s then Some Taken
+    else (if nat_le 64 (length slots) then Some Full
+    else (if nat_lt place 3 || nat_lt (length slots) place then Some Rule else None)))
 
 -- why a slot can't be taken out
 abbrev pub remove_fault : List Slot → Slot → Option OrderFault
 remove_fault slots s =
-  if is_fixed s then Some Fixed else (if not (has_slot slots s) then Some Missing else None)
+    if is_fixed s then Some Fixed else (if not (has_slot slots s) then Some Missing else None)
 
 -- why a slot can't be moved to a place
 abbrev pub move_fault : List Slot → Slot → ℕ → Option OrderFault
 move_fault slots s place =
-  if is_fixed s then Some Fixed
-  else (if not (has_slot slots s) then Some Missing
-  else (if nat_lt place 3 || nat_le (length slots) place then Some Rule else None))
+    if is_fixed s then Some Fixed
+    else (if not (has_slot slots s) then Some Missing
+    else (if nat_lt place 3 || nat_le (length slots) place then Some Rule else None))

@@ -11,6 +11,5 @@ mod fault;
 mod lists;
 mod sequence;
 mod slots;
-
 #[cfg(test)]
 mod tests;

@@ -14,16 +14,39 @@ pub const MAX_SLOTS: usize = 64;
 pub const FIXED: usize = 3;
 
 pub(crate) const START: [Slot; 8] = [
-    Slot { module: 0, instance: 0 },
-    Slot { module: 1, instance: 0 },
-    Slot { module: 2, instance: 0 },
-    Slot { module: 3, instance: 0 },
-    Slot { module: 4, instance: 0 },
-    Slot { module: 5, instance: 0 },
-    Slot { module: 6, instance: 0 },
-    Slot { module: 7, instance: 0 },
+    Slot {
+        module: 0,
+        instance: 0,
+    },
+    Slot {
+        module: 1,
+        instance: 0,
+    },
+    Slot {
+        module: 2,
+        instance: 0,
+    },
+    Slot {
+        module: 3,
+        instance: 0,
+    },
+    Slot {
+        module: 4,
+        instance: 0,
+    },
+    Slot {
+        module: 5,
+        instance: 0,
+    },
+    Slot {
+        module: 6,
+        instance: 0,
+    },
+    Slot {
+        module: 7,
+        instance: 0,
+    },
 ];
-
 
 // Whether the slot is of a module that stands at a fixed place.
 pub(crate) fn is_fixed(slot: Slot) -> bool

@@ -9,11 +9,13 @@ invariant_of-result c =
     IsOrder-fault c.args.slots.items none
 
 pub returns-in-Some-clause-allowed : goal.returns-in-Some-clause-allowed
-returns-in-Some-clause-allowed c =
-    (λ e. cc, λ order.
+returns-in-Some-clause-allowed c = (
+  λ e. cc,
+  λ order.
       let none = order_fault-none c.args.slots.items order in
       let found = ap order_fault c.deref.ensures.value in
-      cc)
+      cc,
+)
 
 pub returns-in-None-clause-allowed : goal.returns-in-None-clause-allowed
 returns-in-None-clause-allowed c =
