@@ -1,0 +1,93 @@
+ghost use Rattle.std.specs.Prelude.{◌≡◌, Some};
+ghost use Rattle.params.specs.Names.{name_of_field};
+
+use std::fmt;
+use thiserror::Error;
+
+/// A field of a module's settings, of a blend or of a mask, by its key in scripts. `Blend` stands for a
+/// blend as a whole, where its module doesn't blend.
+#[derive(Clone, Copy, Debug, PartialEq, Eq, Hash)]
+pub enum Field {
+    Black,
+    White,
+    Mul,
+    Swap,
+    FlipX,
+    FlipY,
+    Left,
+    Top,
+    Right,
+    Bottom,
+    Gain,
+    Rows,
+    Nodes,
+    Opacity,
+    Ax,
+    Ay,
+    Dx,
+    Dy,
+    Slope,
+    Cx,
+    Cy,
+    Ux,
+    Uy,
+    A,
+    B,
+    Feather,
+    Blend,
+}
+
+impl Field {
+    /// The field's key in scripts, and `blend` for `Blend`.
+    pub fn name(self) -> &'static str
+        ensures value { result.now ≡ name_of_field self }
+    {
+        match self {
+            Field::Black => "black",
+            Field::White => "white",
+            Field::Mul => "mul",
+            Field::Swap => "swap",
+            Field::FlipX => "flip_x",
+            Field::FlipY => "flip_y",
+            Field::Left => "left",
+            Field::Top => "top",
+            Field::Right => "right",
+            Field::Bottom => "bottom",
+            Field::Gain => "gain",
+            Field::Rows => "rows",
+            Field::Nodes => "nodes",
+            Field::Opacity => "opacity",
+            Field::Ax => "ax",
+            Field::Ay => "ay",
+            Field::Dx => "dx",
+            Field::Dy => "dy",
+            Field::Slope => "slope",
+            Field::Cx => "cx",
+            Field::Cy => "cy",
+            Field::Ux => "ux",
+            Field::Uy => "uy",
+            Field::A => "a",
+            Field::B => "b",
+            Field::Feather => "feather",
+            Field::Blend => "blend",
+        }
+    }
+}
+
+impl fmt::Display for Field {
+    ghost output = { λ field. Some (name_of_field field) };
+
+    fn fmt<W: fmt::Write>(&self, f: &mut fmt::Formatter<W>) -> fmt::Result {
+        f.write_str(self.name())
+    }
+}
+
+/// A number of the settings that lies outside its range: its field, its place in the field's list
+/// counted from 0 (0 where the field isn't a list), and the number.
+#[derive(Clone, Copy, Debug, PartialEq, Eq, Hash, Error)]
+#[error("{field} {value}")]
+pub struct ParamFault {
+    pub field: Field,
+    pub at: u32,
+    pub value: i64,
+}
