@@ -1,10 +1,13 @@
 -- Lemmas on lists of slots.
 use Rattle.std.proofs.Common.{◌≡◌, ℕ, ◌+◌, ◌<◌, ◌≤◌, Bool, true, false, not, cond, ◌&&◌, ◌||◌, eqb, List, [], ◌∷◌, ◌++◌, length, get_or, take, drop, zero, suc, refl, sym, ap, ◌∙◌, subst, arith}
-use Rattle.std.specs.List.{filter, list_any, remove, insert, position_or_len}
+use Rattle.std.specs.List.{filter, list_any, remove, insert, position, position_or_len}
+use Rattle.std.specs.Prelude.{is_some}
 use Rattle.std.proofs.lemmas.Bool.{false≢true}
 use Rattle.std.proofs.lemmas.Bool.Decides.{nat_tests}
 use Rattle.std.proofs.lemmas.List.{take-append-drop, length-append}
 use Rattle.std.proofs.lemmas.List.Elements.{filter-append}
+use Rattle.std.proofs.lemmas.List.Folds.{list_any-append}
+use Rattle.std.proofs.lemmas.Map.Views.{any-filter_same}
 use Rattle.module_order.specs.declared.slots.Slot.{Slot}
 use Rattle.module_order.specs.Slot.{slot, is_slot, has_slot, without}
 
@@ -47,6 +50,19 @@ has_place s [] h = absurd (false≢true h)
 has_place s (x ∷ xs) h =
     elim (is_slot s x) as (λ b. (b || has_slot xs s) ≡ true → cond {A = ℕ} (not b) (1 + position_or_len (is_slot s) xs) 0 < suc (length xs))
     [ true ↦ λ e. omega arith | false ↦ λ e. let l = has_place s xs e in omega arith ] h
+
+-- and none where it doesn't
+pub no_place : (s : Slot) (xs : List Slot) → has_slot xs s ≡ false → length xs ≤ position_or_len (is_slot s) xs
+no_place s [] h = omega arith
+no_place s (x ∷ xs) h =
+  elim (is_slot s x) as (λ b. (b || has_slot xs s) ≡ false → suc (length xs) ≤ cond {A = ℕ} (not b) (1 + position_or_len (is_slot s) xs) 0)
+    [ true ↦ λ e. absurd (false≢true (sym e)) | false ↦ λ e. let l = no_place s xs e in omega arith ] h
+
+pub is_some-position : (s : Slot) (xs : List Slot) → is_some (position (is_slot s) xs) ≡ has_slot xs s
+is_some-position s xs =
+  elim (has_slot xs s) as (λ b. has_slot xs s ≡ b → is_some (position (is_slot s) xs) ≡ b)
+    [ true ↦ λ e. let l = has_place s xs e in grind (arith, nat_tests)
+    | false ↦ λ e. let l = no_place s xs e in grind (arith, nat_tests) ] refl
 
 -- a slot at a place stands in the list
 pub times_at : (s : Slot) (xs : List Slot) (i : ℕ) → i < length xs → is_slot s (get_or xs i s) ≡ true → 1 ≤ times s xs
@@ -111,3 +127,20 @@ without_leaves s [] = refl
 without_leaves s (x ∷ xs) =
     elim (is_slot s x) as (λ v. is_slot s x ≡ v → has_slot (cond (not v) (x ∷ without xs s) (without xs s)) s ≡ false)
     [ true ↦ λ e. without_leaves s xs | false ↦ λ e. rw e (without_leaves s xs) ] refl
+
+or_swap : (a b c : Bool) → (a || (b || c)) ≡ (b || (a || c))
+or_swap true true c = refl
+or_swap true false c = refl
+or_swap false b c = refl
+
+-- which slots stand after one is put in, and after one is taken out
+pub has_slot-insert : (xs : List Slot) (i : ℕ) (s t : Slot) → has_slot (insert xs i s) t ≡ (is_slot t s || has_slot xs t)
+has_slot-insert xs i s t =
+    let whole = ap (λ ys. has_slot ys t) (take-append-drop i xs) in
+    let parts = list_any-append (is_slot t) (take i xs) (drop i xs) in
+    let around = list_any-append (is_slot t) (take i xs) (s ∷ drop i xs) in
+    rw (around, ← whole, parts) (or_swap (has_slot (take i xs) t) (is_slot t s) (has_slot (drop i xs) t))
+
+pub has_slot-without : (xs : List Slot) (s t : Slot) → is_slot s t ≡ false → has_slot (without xs s) t ≡ has_slot xs t
+has_slot-without xs s t other =
+    any-filter_same (is_slot t) (λ x. not (is_slot s x)) true (λ x h. ap not (subst (λ y. is_slot s y ≡ false) (sym (slot_is t x h)) other)) xs

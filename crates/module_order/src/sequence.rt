@@ -1,4 +1,4 @@
-ghost use Rattle.std.specs.Prelude.{◌≡◌, ◌<◌, ◌↔◌, length, slice_get, None, IsSome, IfSome, IsOk, IfOk, OnOk, OnErr, Contains, position, insert};
+ghost use Rattle.std.specs.Prelude.{◌≡◌, ◌<◌, ◌↔◌, length, slice_get, None, is_some, IsSome, IfSome, IsOk, IfOk, OnOk, OnErr, Contains, position, insert};
 
 use crate::fault::OrderFault;
 use crate::lists::{FIXED, MAX_SLOTS, START, is_fixed, order_fault, place_of, take_out};
@@ -27,7 +27,7 @@ impl Model for Order {
 }
 
 impl Order {
-    ghost use Rattle.module_order.specs.Slot.{is_slot, without, start_slots};
+    ghost use Rattle.module_order.specs.Slot.{is_slot, has_slot, without, start_slots};
     ghost use Rattle.module_order.specs.Faults.{unless, order_fault, insert_fault, remove_fault, move_fault};
     ghost use Rattle.module_order.specs.Order.{IsOrder};
 
@@ -59,6 +59,7 @@ impl Order {
     pub fn place(&self, slot: Slot) -> Option<usize>
         ensures value { result ≡ position (is_slot slot) self.now }
         ensures there { IsSome result ↔ Contains self.now slot }
+        ensures known { is_some result ≡ has_slot self.now slot }
         ensures slot { IfSome result (λ i. slice_get self.now i ≡ Some slot) }
     {
         place_of(&self.slots, slot)
