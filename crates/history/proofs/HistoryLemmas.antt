@@ -4,7 +4,7 @@ use Rattle.std.specs.List.{All, filter, list_any, count_by, insert, filter_map, 
 use Rattle.std.specs.Prelude.{slice_get}
 use Rattle.module_order.specs.Faults.{find_map}
 use Rattle.std.proofs.lemmas.List.{take-append-drop, length-append, length-take-le}
-use Rattle.std.proofs.lemmas.List.Elements.{All-take, All-push, All-filter, All-same, All-weaker, All-cons, All-nil, filter-append, filter_passes}
+use Rattle.std.proofs.lemmas.List.Elements.{All-take, All-push, All-filter, All-same, All-weaker, All-cons, All-nil, All-head, All-tail, filter-append, filter_passes}
 use Rattle.std.proofs.lemmas.List.Filters.{length-filter_both}
 use Rattle.std.proofs.lemmas.List.Sums.{length-filter}
 use Rattle.params.specs.Ranges.{module_of}
@@ -16,7 +16,8 @@ use Rattle.history.specs.declared.fault.EditFault.{EditFault}
 use Rattle.history.specs.declared.fault.EditFault.TheVariants.{FixedModule, NoInstance}
 use Rattle.history.specs.Item.{slot_of, is_of, has_item, last_items, without_items}
 use Rattle.history.specs.Stack.{Stack, stack}
-use Rattle.history.specs.Faults.{item_fault, is_demosaic, end_fault}
+use Rattle.history.specs.Faults.{item_fault, is_demosaic, end_fault, stack_fault}
+use Rattle.std.specs.Option.{option_or}
 use Rattle.std.proofs.lemmas.Bool.Decides.{nat_tests}
 use Rattle.history.specs.History.{IsHistory}
 use Rattle.history.proofs.ItemLemmas.{All-last_items, length-last_items, or_true}
@@ -120,3 +121,20 @@ within_from items end none = grind (arith, nat_tests)
 pub Stands-copy : (seen : Stack) (order : List Slot) (item copy : Item) → order ≡ seen.order → copy ≡ item → Stands seen.order item → Stands order copy
 Stands-copy seen order item copy same copied stands =
     subst (λ i. Stands order i) (sym copied) (subst (λ slots. Stands slots item) (sym same) stands)
+
+pub find_map-All : {X Y : Type 0} (f : X → Option Y) (xs : List X) → All (λ x. f x ≡ None) xs → find_map f xs ≡ None
+find_map-All f [] all = refl
+find_map-All f (x ∷ xs) all = rw (All-head (λ y. f y ≡ None) x xs all) (find_map-All f xs (All-tail (λ y. f y ≡ None) x xs all))
+
+-- a history has no fault, and what has none is a history
+pub IsHistory-fault : (h : Stack) → stack_fault h ≡ None → IsHistory h
+IsHistory-fault h none =
+    let faults = find_map (item_fault h.order) h.items in
+    let first : faults ≡ None = (elim faults as (λ o. option_or o (end_fault h.items h.end) ≡ None → o ≡ None) [ None ↦ λ _. refl | Some f ↦ λ e. cc ]) none in
+    let last : end_fault h.items h.end ≡ None = rw first at none in
+    record { items = All-find_map (item_fault h.order) h.items first; end = within_from h.items h.end last }
+
+pub stack_fault-none : (h : Stack) → IsHistory h → stack_fault h ≡ None
+stack_fault-none h history =
+    let last : end_fault h.items h.end ≡ None = let within : h.end ≤ length h.items = history.end in grind (arith, nat_tests) in
+    rw (find_map-All (item_fault h.order) h.items history.items) last

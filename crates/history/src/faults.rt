@@ -1,7 +1,8 @@
 // The faults of items, of a whole history and of edits.
 ghost use Rattle.std.specs.Prelude.{◌≡◌, option_map};
-ghost use Rattle.module_order.specs.Faults.{find_map};
-ghost use Rattle.history.specs.Faults.{is_demosaic, values_fault, item_fault, end_fault, of_order};
+ghost use Rattle.module_order.specs.Faults.{find_map, unless};
+ghost use Rattle.history.specs.Faults.{is_demosaic, values_fault, item_fault, end_fault, stack_fault, of_order};
+ghost use Rattle.history.specs.Stack.{stack};
 
 use crate::fault::EditFault;
 use crate::items::Item;
@@ -41,7 +42,7 @@ pub(crate) fn item_fault(order: &Order, item: &Item) -> Option<EditFault>
 }
 
 // The first fault of the items, from left to right.
-pub(crate) fn items_fault(order: &Order, items: &[Item]) -> Option<EditFault>
+fn items_fault(order: &Order, items: &[Item]) -> Option<EditFault>
     ensures { result ≡ find_map (item_fault order.now) items.now }
 {
     for item in items {
@@ -62,6 +63,16 @@ pub(crate) fn end_fault(items: &[Item], end: u32) -> Option<EditFault>
     None
 }
 
+// Why items, an end and an order are no history.
+pub(crate) fn stack_fault(order: &Order, items: &[Item], end: u32) -> Option<EditFault>
+    ensures { result ≡ stack_fault (stack items.now end order.now) }
+{
+    match items_fault(order, items) {
+        Some(fault) => Some(fault),
+        None => end_fault(items, end),
+    }
+}
+
 // A fault of the order, as an edit's.
 pub(crate) fn of_order(fault: OrderFault) -> EditFault
     ensures { result ≡ of_order fault }
@@ -72,5 +83,15 @@ pub(crate) fn of_order(fault: OrderFault) -> EditFault
         OrderFault::Fixed => EditFault::FixedModule,
         OrderFault::Taken => EditFault::InstanceTaken,
         OrderFault::Missing => EditFault::NoInstance,
+    }
+}
+
+// Refuses with the fault, if there is one.
+pub(crate) fn refuse(fault: Option<EditFault>) -> Result<(), EditFault>
+    ensures { result ≡ unless fault tt }
+{
+    match fault {
+        Some(fault) => Err(fault),
+        None => Ok(()),
     }
 }

@@ -1,4 +1,6 @@
 ghost use Rattle.std.specs.Prelude.{◌≡◌, IfOk};
+ghost use Rattle.params.specs.Names.{number_of};
+ghost use Rattle.module_order.specs.Slot.{slot};
 
 use module_order::Slot;
 use params::{Blend, Module, Params};
@@ -29,10 +31,7 @@ impl Item {
     pub fn slot(&self) -> Slot
         ensures { result ≡ slot_of self.now }
     {
-        Slot {
-            module: self.params.module().number(),
-            instance: self.instance,
-        }
+        slot_at(self.params.module(), self.instance)
     }
 
     /// The same item once more.
@@ -45,5 +44,15 @@ impl Item {
             params: params::copy(alloc, &self.params)?,
             blend: self.blend,
         })
+    }
+}
+
+// The slot of a module's instance.
+pub(crate) fn slot_at(module: Module, instance: u8) -> Slot
+    ensures { result ≡ slot (number_of «module») instance }
+{
+    Slot {
+        module: module.number(),
+        instance,
     }
 }

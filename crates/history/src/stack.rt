@@ -1,13 +1,12 @@
-ghost use Rattle.std.specs.Prelude.{◌≡◌, None, IfOk, OnOk, OnErr};
+ghost use Rattle.std.specs.Prelude.{◌≡◌, None, IfOk, OnOk, OnErr, IsOk, ◌↔◌};
 
 use crate::changes::Kind;
 use crate::edits::Edit;
 use crate::fault::EditFault;
-use crate::faults::{end_fault, item_fault, items_fault, of_order};
-use crate::items::Item;
+use crate::faults::{end_fault, item_fault, of_order, refuse, stack_fault};
+use crate::items::{Item, slot_at};
 use crate::lists::{compress, copy_items, count_items, drop_items, overwrites, put_on};
 use module_order::{Order, Slot};
-use params::Module;
 use std::alloc::{AllocError, Global};
 use std::marker::Model;
 
@@ -35,9 +34,8 @@ impl Model for History {
 
 impl History {
     ghost use Rattle.std.specs.Prelude.{[]};
-    ghost use Rattle.module_order.specs.Slot.{slot, start_slots};
+    ghost use Rattle.module_order.specs.Slot.{start_slots};
     ghost use Rattle.module_order.specs.Faults.{unless, insert_fault, remove_fault, move_fault};
-    ghost use Rattle.params.specs.Names.{number_of};
     ghost use Rattle.history.specs.Stack.{stack};
     ghost use Rattle.history.specs.History.{IsHistory};
     ghost use Rattle.history.specs.Faults.{stack_fault, edit_fault, item_fault, end_fault};
@@ -58,15 +56,13 @@ impl History {
     /// items come from left to right: `FixedModule` at demosaic, `NoInstance`, `BadParams`; then
     /// `EndPast`. Takes no memory.
     pub fn of(items: Vec<Item>, end: u32, order: Order) -> Result<History, EditFault>
-        ensures { let h = stack items.items end order in result ≡ unless (stack_fault h) h }
+        ensures value { let h = stack items.items end order in result ≡ unless (stack_fault h) h }
+        ensures allowed { IsOk result ↔ IsHistory (stack items.items end order) }
     {
-        if let Some(fault) = items_fault(&order, &items) {
-            return Err(fault);
+        match stack_fault(&order, &items, end) {
+            Some(fault) => Err(fault),
+            None => Ok(History { items, end, order }),
         }
-        if let Some(fault) = end_fault(&items, end) {
-            return Err(fault);
-        }
-        Ok(History { items, end, order })
     }
 
     /// The items, in the order in which they were set; those from the end on don't count.
@@ -112,14 +108,8 @@ impl History {
         ensures { result ≡ unless (edit_fault self.now edit.now) tt }
     {
         match edit {
-            Edit::Set(item) => match item_fault(&self.order, item) {
-                Some(fault) => Err(fault),
-                None => Ok(()),
-            },
-            Edit::Select { end } => match end_fault(&self.items, *end) {
-                Some(fault) => Err(fault),
-                None => Ok(()),
-            },
+            Edit::Set(item) => refuse(item_fault(&self.order, item)),
+            Edit::Select { end } => refuse(end_fault(&self.items, *end)),
             Edit::Compress => Ok(()),
             Edit::Add {
                 module,
@@ -127,11 +117,11 @@ impl History {
                 place,
             } => self
                 .order
-                .may_insert(slot_of(*module, *instance), *place as usize)
+                .may_insert(slot_at(*module, *instance), *place as usize)
                 .map_err(of_order),
             Edit::Delete { module, instance } => self
                 .order
-                .may_remove(slot_of(*module, *instance))
+                .may_remove(slot_at(*module, *instance))
                 .map_err(of_order),
             Edit::Move {
                 module,
@@ -139,7 +129,7 @@ impl History {
                 place,
             } => self
                 .order
-                .may_move(slot_of(*module, *instance), *place as usize)
+                .may_move(slot_at(*module, *instance), *place as usize)
                 .map_err(of_order),
         }
     }
@@ -167,11 +157,11 @@ impl History {
                 instance,
                 place,
             } => {
-                self.add(alloc, slot_of(*module, *instance), *place as usize)?;
+                self.add(alloc, slot_at(*module, *instance), *place as usize)?;
                 Ok(Kind::Remove)
             }
             Edit::Delete { module, instance } => {
-                self.delete(slot_of(*module, *instance));
+                self.delete(slot_at(*module, *instance));
                 Ok(Kind::Remove)
             }
             Edit::Move {
@@ -179,7 +169,7 @@ impl History {
                 instance,
                 place,
             } => {
-                self.move_to(slot_of(*module, *instance), *place as usize);
+                self.move_to(slot_at(*module, *instance), *place as usize);
                 Ok(Kind::Remove)
             }
         }
@@ -245,18 +235,5 @@ impl History {
         ensures { self.new ≡ after_move self.old slot place }
     {
         self.order.move_to(slot, place);
-    }
-}
-
-ghost use Rattle.module_order.specs.Slot.{slot as slot_at};
-ghost use Rattle.params.specs.Names.{number_of as place_among};
-
-// The slot of a module's instance.
-fn slot_of(module: Module, instance: u8) -> Slot
-    ensures { result ≡ slot_at (place_among «module») instance }
-{
-    Slot {
-        module: module.number(),
-        instance,
     }
 }

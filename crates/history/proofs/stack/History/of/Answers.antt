@@ -1,13 +1,22 @@
-use Rattle.std.proofs.Common.{◌≡◌, ◌≤◌, None, length, sym, ap, ◌∙◌, arith}
-use Rattle.std.proofs.lemmas.Bool.Decides.{nat_tests}
-use Rattle.module_order.specs.Faults.{find_map}
-use Rattle.history.specs.Faults.{item_fault, end_fault}
-use Rattle.history.proofs.HistoryLemmas.{All-find_map, within_from}
+use Rattle.std.proofs.Common.{refl, sym, ap, ◌∙◌}
+use Rattle.history.specs.Stack.{stack}
+use Rattle.history.specs.Faults.{stack_fault}
+use Rattle.history.proofs.HistoryLemmas.{IsHistory-fault, stack_fault-none}
 use Rattle.history.proofs.stack.History.of.Goals as goal
 
 pub invariant_of-result : goal.invariant_of-result
 invariant_of-result c =
-  record {
-    items = All-find_map (item_fault c.args.order) c.args.items.items (sym (ap (find_map (item_fault c.args.order)) c.deref.ensures.value) ∙ sym c.items_fault.ensures ∙ c.in_default.is);
-    end = within_from c.args.items.items c.args.end (sym (ap (λ xs. end_fault xs c.args.end) c.deref-2.ensures.value) ∙ sym c.end_fault.ensures ∙ c.in_default-end_fault.is);
-  }
+  let seen = ap (λ xs. stack_fault (stack xs c.args.end c.args.order)) c.deref.ensures.value in
+  IsHistory-fault (stack c.args.items.items c.args.end c.args.order) (sym seen ∙ sym c.stack_fault.ensures ∙ c.in-None.is)
+
+pub returns-in-Some-clause-allowed : goal.returns-in-Some-clause-allowed
+returns-in-Some-clause-allowed c =
+  let seen = ap (λ xs. stack_fault (stack xs c.args.end c.args.order)) c.deref.ensures.value in
+  (λ e. cc, λ history.
+    let none = stack_fault-none (stack c.args.items.items c.args.end c.args.order) history in
+    cc)
+
+pub returns-in-None-clause-allowed : goal.returns-in-None-clause-allowed
+returns-in-None-clause-allowed c =
+  let seen = ap (λ xs. stack_fault (stack xs c.args.end c.args.order)) c.deref.ensures.value in
+  (λ _. IsHistory-fault (stack c.args.items.items c.args.end c.args.order) (sym seen ∙ sym c.stack_fault.ensures ∙ c.in-None.is), λ _. refl)
