@@ -59,11 +59,12 @@ known-inserted order place s t known = has_slot-insert order place s t ∙ ap (�
 
 known-moved : (order : List Slot) (place : ℕ) (s t : Slot) → has_slot order t ≡ true → has_slot (insert (without order s) place s) t ≡ true
 known-moved order place s t known =
-    elim (is_slot s t) as (λ b. is_slot s t ≡ b → has_slot (insert (without order s) place s) t ≡ true)
-      [ true ↦ λ same.
+    elim (is_slot s t) as (λ b. is_slot s t ≡ b → has_slot (insert (without order s) place s) t ≡ true) [
+      | true ↦ λ same.
           has_slot-insert (without order s) place s t
-            ∙ ap (λ b. b || has_slot (without order s) t) (subst (λ u. is_slot u s ≡ true) (sym (slot_is s t same)) (is_slot-own s))
-      | false ↦ λ other. known-inserted (without order s) place s t (has_slot-without order s t other ∙ known) ] refl
+          ∙ ap (λ b. b || has_slot (without order s) t) (subst (λ u. is_slot u s ≡ true) (sym (slot_is s t same)) (is_slot-own s))
+      | false ↦ λ other. known-inserted (without order s) place s t (has_slot-without order s t other ∙ known)
+    ] refl
 
 -- items that stand in an order stand in each that has its slots
 All-kept : (old new : List Slot) (items : List Item) → ((t : Slot) → has_slot old t ≡ true → has_slot new t ≡ true) → All (Stands old) items → All (Stands new) items
@@ -99,10 +100,10 @@ IsHistory-deleted items new end n order new_order s history e falls out =
     let halves = ap length (filter-append is_not front (drop end items)) in
     record {
       items = All-same (Stands new_order) new (filter is_not items) e (λ k d l.
-        let item = get_or (filter is_not items) k d in
-        let known : has_slot new_order (slot_of item) ≡ true =
-                ap (λ slots. has_slot slots (slot_of item)) out ∙ has_slot-without order s (slot_of item) (not_true (is_of s item) (others k d l)) ∙ has_slot-Stands order item (stand k d l) in
-        Stands-kept order new_order item known (stand k d l));
+          let item = get_or (filter is_not items) k d in
+          let known : has_slot new_order (slot_of item) ≡ true =
+          ap (λ slots. has_slot slots (slot_of item)) out ∙ has_slot-without order s (slot_of item) (not_true (is_of s item) (others k d l)) ∙ has_slot-Stands order item (stand k d l) in
+          Stands-kept order new_order item known (stand k d l));
       end = omega (arith, both, whole, halves, length-filter is front, length-append (filter is_not front) (filter is_not (drop end items)), ap length e, length-take-le end items history.end);
     }
 
@@ -110,9 +111,10 @@ IsHistory-deleted items new end n order new_order s history e falls out =
 pub All-find_map : {X Y : Type 0} (f : X → Option Y) (xs : List X) → find_map f xs ≡ None → All (λ x. f x ≡ None) xs
 All-find_map f [] none = All-nil (λ x. f x ≡ None)
 All-find_map {X} {Y} f (x ∷ xs) none =
-    (elim (f x) as (λ o. f x ≡ o → slice_get (cons_option o (filter_map f xs)) 0 ≡ None → All (λ y. f y ≡ None) (x ∷ xs))
-      [ None ↦ λ here rest. All-cons (λ y. f y ≡ None) x xs here (All-find_map f xs rest)
-      | Some y ↦ λ here found. cc ]) refl none
+    (elim (f x) as (λ o. f x ≡ o → slice_get (cons_option o (filter_map f xs)) 0 ≡ None → All (λ y. f y ≡ None) (x ∷ xs)) [
+      | None ↦ λ here rest. All-cons (λ y. f y ≡ None) x xs here (All-find_map f xs rest)
+      | Some y ↦ λ here found. cc
+    ]) refl none
 
 pub within_from : (items : List Item) (end : ℕ) → end_fault items end ≡ None → end ≤ length items
 within_from items end none = grind (arith, nat_tests)

@@ -31,9 +31,9 @@ values_fault item = option_or (result_err (check_of item.params)) (result_err (c
 -- why an item can't stand in a history of this order
 abbrev pub item_fault : List Slot → Item → Option EditFault
 item_fault order item =
-  if is_demosaic (module_of item.params) then Some FixedModule
-  else (if not (has_slot order (slot_of item)) then Some NoInstance
-  else option_map BadParams (values_fault item))
+    if is_demosaic (module_of item.params) then Some FixedModule
+    else (if not (has_slot order (slot_of item)) then Some NoInstance
+    else option_map BadParams (values_fault item))
 
 -- why so many of the items can't count
 abbrev pub end_fault : List Item → ℕ → Option EditFault

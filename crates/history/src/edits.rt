@@ -8,7 +8,9 @@ pub enum Edit {
     /// the same instance.
     Set(Item),
     /// Only the first `end` items count.
-    Select { end: u32 },
+    Select {
+        end: u32,
+    },
     /// Items past the end go, and of each instance all but the last.
     Compress,
     /// Puts an instance into the order at a place.
@@ -18,7 +20,10 @@ pub enum Edit {
         place: u32,
     },
     /// Takes an instance out of the order, and all its items out of the stack.
-    Delete { module: Module, instance: u8 },
+    Delete {
+        module: Module,
+        instance: u8,
+    },
     /// Moves an instance to a place of the order.
     Move {
         module: Module,

@@ -15,6 +15,5 @@ mod faults;
 mod items;
 mod lists;
 mod stack;
-
 #[cfg(test)]
 mod tests;
