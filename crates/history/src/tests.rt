@@ -35,6 +35,19 @@ fn curve(alloc: Global) -> Result<Item, AllocError> {
     Ok(item(0, Params::ToneCurve(ToneCurve { nodes })))
 }
 
+// Module, instance and, of an exposure, gain.
+fn shown(item: &Item) -> (Module, u8, u32) {
+    match &item.params {
+        Params::Exposure(exposure) => (Module::Exposure, item.instance, exposure.gain),
+        params => (params.module(), item.instance, 0),
+    }
+}
+
+// Whether the history has these items and this end.
+fn is_shown(history: &History, items: &[(Module, u8, u32)], end: u32) -> bool {
+    history.end() == end && history.items().iter().map(shown).eq(items.iter().copied())
+}
+
 // Applies the edit where it is allowed.
 fn try_edit(
     alloc: Global,
@@ -47,139 +60,134 @@ fn try_edit(
     Ok(Ok(history.apply(alloc, edit)?))
 }
 
+fn setting_edit(alloc: Global, step: usize) -> Result<Edit, AllocError> {
+    Ok(match step {
+        0 => Edit::Set(exposure(0, 8192)),
+        1 => Edit::Set(mixer()),
+        2 => Edit::Set(curve(alloc)?),
+        3 => Edit::Select { end: 1 },
+        4 => Edit::Set(exposure(0, 2048)),
+        5 => Edit::Set(temperature()),
+        6 => Edit::Set(exposure(0, 4096)),
+        _ => Edit::Compress,
+    })
+}
+
 #[test]
 fn eight_edits_make_these_kinds_and_items(rt: HostRuntime) -> Result<(), Fail> {
     let alloc = rt.alloc();
     let mut history = History::start(alloc)?;
-    let first = [
-        (Edit::Set(exposure(0, 8192)), Kind::Synch),
-        (Edit::Set(mixer()), Kind::Synch),
-        (Edit::Set(curve(alloc)?), Kind::Synch),
-        (Edit::Select { end: 1 }, Kind::Synch),
-        (Edit::Set(exposure(0, 2048)), Kind::Top),
-    ];
-    for (edit, kind) in &first {
-        assert_eq!(rt; try_edit(alloc, &mut history, edit)?, Ok(*kind), "{edit:?}");
+    for step in 0..8 {
+        let edit = setting_edit(alloc, step)?;
+        let kind = if step == 4 { Kind::Top } else { Kind::Synch };
+        assert_eq!(rt; try_edit(alloc, &mut history, &edit)?, Ok(kind), "{step}");
+        if step == 4 {
+            assert!(rt; is_shown(&history, &[(Module::Exposure, 0, 2048)], 1));
+        }
     }
-    assert_eq!(rt; history.items(), [exposure(0, 2048)].as_slice());
-    let middle = history.copy(alloc)?;
-    let rest = [
-        Edit::Set(temperature()),
-        Edit::Set(exposure(0, 4096)),
-        Edit::Compress,
-    ];
-    for edit in &rest {
-        assert_eq!(rt;
-            try_edit(alloc, &mut history, edit)?,
-            Ok(Kind::Synch),
-            "{edit:?}"
-        );
-    }
-    assert_eq!(rt;
-        history.items(),
-        [temperature(), exposure(0, 4096)].as_slice()
-    );
-    assert_eq!(rt; history.end(), 2);
-    assert_eq!(rt; middle.items(), [exposure(0, 2048)].as_slice());
-    assert_eq!(rt; middle.end(), 1);
+    let last = [(Module::Temperature, 0, 0), (Module::Exposure, 0, 4096)];
+    assert!(rt; is_shown(&history.copy(alloc)?, &last, 2));
     Ok(())
+}
+
+fn instance_edit(alloc: Global, step: usize) -> Result<Edit, AllocError> {
+    let module = Module::Exposure;
+    Ok(match step {
+        0 => Edit::Set(exposure(0, 8192)),
+        1 => Edit::Set(curve(alloc)?),
+        2 => Edit::Add {
+            module,
+            instance: 1,
+            place: 6,
+        },
+        3 => Edit::Set(exposure(1, 256)),
+        4 => Edit::Select { end: 2 },
+        5 => Edit::Delete {
+            module,
+            instance: 0,
+        },
+        _ => Edit::Move {
+            module,
+            instance: 1,
+            place: 3,
+        },
+    })
 }
 
 #[test]
 fn a_deleted_instance_takes_its_items_along(rt: HostRuntime) -> Result<(), Fail> {
     let alloc = rt.alloc();
     let mut history = History::start(alloc)?;
-    let edits = [
-        (Edit::Set(exposure(0, 8192)), Kind::Synch),
-        (Edit::Set(curve(alloc)?), Kind::Synch),
-        (
-            Edit::Add {
-                module: Module::Exposure,
-                instance: 1,
-                place: 6,
-            },
-            Kind::Remove,
-        ),
-        (Edit::Set(exposure(1, 256)), Kind::Synch),
-        (Edit::Select { end: 2 }, Kind::Synch),
-        (
-            Edit::Delete {
-                module: Module::Exposure,
-                instance: 0,
-            },
-            Kind::Remove,
-        ),
-    ];
-    for (edit, kind) in &edits {
-        assert_eq!(rt; try_edit(alloc, &mut history, edit)?, Ok(*kind), "{edit:?}");
+    let (synch, remove) = (Kind::Synch, Kind::Remove);
+    let kinds = [synch, synch, remove, synch, synch, remove, remove];
+    for (step, kind) in kinds.iter().enumerate() {
+        let edit = instance_edit(alloc, step)?;
+        assert_eq!(rt; try_edit(alloc, &mut history, &edit)?, Ok(*kind), "{step}");
     }
-    assert_eq!(rt;
-        history.items(),
-        [curve(alloc)?, exposure(1, 256)].as_slice()
-    );
-    assert_eq!(rt; history.end(), 1);
-    // What stood at 6 before the delete stands at 5; it is moved to the front of what is open.
+    let last = [(Module::ToneCurve, 0, 0), (Module::Exposure, 1, 256)];
+    assert!(rt; is_shown(&history, &last, 1));
     let added = Slot {
         module: 5,
         instance: 1,
     };
-    assert_eq!(rt; history.order().place(added), Some(5));
-    let edit = Edit::Move {
-        module: Module::Exposure,
-        instance: 1,
-        place: 3,
-    };
-    assert_eq!(rt; try_edit(alloc, &mut history, &edit)?, Ok(Kind::Remove));
     assert_eq!(rt; history.order().place(added), Some(3));
     Ok(())
 }
 
-#[test]
-fn an_edit_is_refused_by_its_first_fault(rt: HostRuntime) -> Result<(), Fail> {
-    let alloc = rt.alloc();
-    let mut history = History::start(alloc)?;
+// A crop whose right isn't above its left, with a blend, which a crop doesn't have.
+fn narrow_crop() -> Item {
     let crop = Crop {
         left: 40_000,
         top: 0,
         right: 40_000,
         bottom: 65_536,
     };
+    blended(Params::Crop(crop))
+}
+
+fn blended(params: Params) -> Item {
     let blend = Blend {
         opacity: 65_536,
         mode: Mode::Normal,
         mask: None,
     };
-    let cut = Item {
+    Item {
+        instance: 0,
+        enabled: false,
+        params,
         blend: Some(blend),
-        ..item(0, Params::Crop(crop))
-    };
-    let blended = Item {
-        blend: Some(blend),
-        ..temperature()
-    };
-    let right = ParamFault {
-        field: Field::Right,
+    }
+}
+
+fn refused_edit(case: usize) -> Edit {
+    match case {
+        0 => Edit::Set(item(9, Params::Demosaic)),
+        1 => Edit::Set(exposure(1, 65_537)),
+        2 => Edit::Set(narrow_crop()),
+        3 => Edit::Set(blended(Params::Demosaic)),
+        4 => Edit::Set(blended(temperature().params)),
+        _ => Edit::Select { end: 1 },
+    }
+}
+
+#[test]
+fn an_edit_is_refused_by_its_first_fault(rt: HostRuntime) -> Result<(), Fail> {
+    let history = History::start(rt.alloc())?;
+    let value_fault = |field, value| EditFault::BadParams(ParamFault {
+        field,
         at: 0,
-        value: 40_000,
-    };
-    let no_blend = ParamFault {
-        field: Field::Blend,
-        at: 0,
-        value: 0,
-    };
-    let cases = [
-        (Edit::Set(item(9, Params::Demosaic)), EditFault::FixedModule),
-        (Edit::Set(exposure(1, 65_537)), EditFault::NoInstance),
-        (Edit::Set(cut), EditFault::BadParams(right)),
-        (Edit::Set(blended), EditFault::BadParams(no_blend)),
-        (Edit::Select { end: 1 }, EditFault::EndPast),
+        value,
+    });
+    let faults = [
+        EditFault::FixedModule,
+        EditFault::NoInstance,
+        value_fault(Field::Right, 40_000),
+        EditFault::FixedModule,
+        value_fault(Field::Blend, 0),
+        EditFault::EndPast,
     ];
-    for (edit, fault) in &cases {
-        assert_eq!(rt;
-            try_edit(alloc, &mut history, edit)?,
-            Err(*fault),
-            "{edit:?}"
-        );
+    for (case, fault) in faults.iter().enumerate() {
+        assert_eq!(rt; history.allowed(&refused_edit(case)), Err(*fault), "{case}");
     }
     Ok(())
 }
@@ -208,6 +216,27 @@ fn order_faults(
     ]
 }
 
+// A history without items, whose order has 64 slots.
+fn full_history(alloc: Global) -> Result<Option<History>, AllocError> {
+    let mut slots = Vec::new(alloc);
+    for module in 0..3 {
+        slots.push(Slot {
+            module,
+            instance: 0,
+        })?;
+    }
+    for instance in 0..61 {
+        slots.push(Slot {
+            module: 5,
+            instance,
+        })?;
+    }
+    let Ok(order) = Order::of(slots) else {
+        return Ok(None);
+    };
+    Ok(History::of(Vec::new(alloc), 0, order).ok())
+}
+
 #[test]
 fn a_change_of_the_order_is_refused_by_its_first_fault(rt: HostRuntime) -> Result<(), Fail> {
     let alloc = rt.alloc();
@@ -224,56 +253,36 @@ fn a_change_of_the_order_is_refused_by_its_first_fault(rt: HostRuntime) -> Resul
         (Module::Crop, 1, 8, [None, missing, missing]),
     ];
     for (module, instance, place, faults) in cases {
-        let found = order_faults(&history, module, instance, place);
-        assert_eq!(rt; found, faults, "{module:?} {instance} {place}");
+        assert_eq!(rt; order_faults(&history, module, instance, place), faults);
     }
-    // In a full order.
-    let mut slots = vec![in alloc;
-        Slot {
-            module: 0,
-            instance: 0
-        },
-    ]?;
-    slots.push(Slot {
-        module: 1,
-        instance: 0,
-    })?;
-    slots.push(Slot {
-        module: 2,
-        instance: 0,
-    })?;
-    for instance in 0..61 {
-        slots.push(Slot {
-            module: 5,
-            instance,
-        })?;
-    }
-    let order = Order::of(slots).expect(&rt, "an order of 64 slots");
-    let full = History::of(Vec::new(alloc), 0, order).expect(&rt, "a history without items");
+    let full = full_history(alloc)?.expect(&rt, "a history of 64 slots");
     let many = Some(EditFault::TooManyInstances);
-    let found = order_faults(&full, Module::Exposure, 61, 0);
-    assert_eq!(rt; found, [many, missing, missing]);
+    assert_eq!(rt;
+        order_faults(&full, Module::Exposure, 61, 0),
+        [many, missing, missing]
+    );
     Ok(())
+}
+
+// Why two items, the second an exposure of instance 1, are no history.
+fn items_fault(alloc: Global, first: Item, end: u32) -> Result<Option<EditFault>, AllocError> {
+    let items = vec![in alloc; first, exposure(1, 4096)]?;
+    Ok(History::of(items, end, Order::start(alloc)?).err())
 }
 
 #[test]
 fn items_and_an_end_are_refused_by_their_first_fault(rt: HostRuntime) -> Result<(), Fail> {
     let alloc = rt.alloc();
-    let first = vec![in alloc;
-        exposure(0, 4096),
-        exposure(1, 4096),
-        item(0, Params::Demosaic),
-    ]?;
-    let of_first = History::of(first, 4, Order::start(alloc)?);
-    assert_eq!(rt; of_first.err(), Some(EditFault::NoInstance));
-    let demosaic = vec![in alloc; item(0, Params::Demosaic), exposure(1, 4096)]?;
-    let of_demosaic = History::of(demosaic, 3, Order::start(alloc)?);
-    assert_eq!(rt; of_demosaic.err(), Some(EditFault::FixedModule));
-    let one = vec![in alloc; exposure(0, 4096)]?;
-    let past = History::of(one, 2, Order::start(alloc)?);
+    let demosaic = item(0, Params::Demosaic);
+    assert_eq!(rt;
+        items_fault(alloc, demosaic, 3)?,
+        Some(EditFault::FixedModule)
+    );
+    assert_eq!(rt;
+        items_fault(alloc, temperature(), 3)?,
+        Some(EditFault::NoInstance)
+    );
+    let past = History::of(Vec::new(alloc), 1, Order::start(alloc)?);
     assert_eq!(rt; past.err(), Some(EditFault::EndPast));
-    let none_count = vec![in alloc; exposure(0, 4096)]?;
-    let none = History::of(none_count, 0, Order::start(alloc)?).expect(&rt, "a history");
-    assert_eq!(rt; none.end(), 0);
     Ok(())
 }
