@@ -1,6 +1,6 @@
 -- Lemmas on histories: what each edit keeps.
-use Rattle.std.proofs.Common.{◌≡◌, ℕ, ◌+◌, ◌-◌, ◌<◌, ◌≤◌, Bool, true, false, not, cond, ◌||◌, List, [], ◌∷◌, ◌++◌, length, get_or, take, drop, refl, sym, ap, ◌∙◌, subst, arith, Option, Some, None}
-use Rattle.std.specs.List.{All, filter, list_any, count_by, insert, filter_map, cons_option}
+use Rattle.std.proofs.Common.{◌≡◌, ℕ, ◌-◌, ◌≤◌, Bool, true, false, not, cond, ◌||◌, List, [], ◌∷◌, ◌++◌, length, get_or, take, drop, refl, sym, ap, ◌∙◌, subst, arith, Option, Some, None}
+use Rattle.std.specs.List.{All, filter, count_by, insert, filter_map, cons_option}
 use Rattle.std.specs.Prelude.{slice_get}
 use Rattle.module_order.specs.Faults.{find_map}
 use Rattle.std.proofs.lemmas.List.{take-append-drop, length-append, length-take-le}
@@ -14,13 +14,13 @@ use Rattle.module_order.proofs.SlotLemmas.{slot_is, is_slot-own, has_slot-insert
 use Rattle.history.specs.declared.items.Item.{Item}
 use Rattle.history.specs.declared.fault.EditFault.{EditFault}
 use Rattle.history.specs.declared.fault.EditFault.TheVariants.{FixedModule, NoInstance}
-use Rattle.history.specs.Item.{slot_of, is_of, has_item, last_items, without_items}
+use Rattle.history.specs.Item.{slot_of, is_of, last_items, without_items}
 use Rattle.history.specs.Stack.{Stack, stack}
 use Rattle.history.specs.Faults.{item_fault, is_demosaic, end_fault, stack_fault}
 use Rattle.std.specs.Option.{option_or}
 use Rattle.std.proofs.lemmas.Bool.Decides.{nat_tests}
 use Rattle.history.specs.History.{IsHistory}
-use Rattle.history.proofs.ItemLemmas.{All-last_items, length-last_items, or_true}
+use Rattle.history.proofs.ItemLemmas.{All-last_items, or_true}
 
 -- the item has no fault
 abbrev pub Stands : List Slot → Item → Type 0

@@ -1,17 +1,16 @@
 -- Lemmas on lists of items.
-use Rattle.std.proofs.Common.{◌≡◌, ℕ, ◌+◌, ◌-◌, ◌<◌, ◌≤◌, Bool, true, false, not, cond, ◌||◌, List, [], ◌∷◌, ◌++◌, length, get_or, take, drop, reverse, zero, suc, refl, sym, ap, ◌∙◌, subst, arith, Option, Some, None}
-use Rattle.std.specs.List.{All, filter, list_any, count_by}
+use Rattle.std.proofs.Common.{◌≡◌, ◌<◌, ◌≤◌, Bool, true, false, cond, ◌||◌, List, [], ◌∷◌, ◌++◌, length, reverse, suc, refl, sym, ap, ◌∙◌, subst, arith}
+use Rattle.std.specs.List.{All}
 use Rattle.std.proofs.lemmas.Bool.{false≢true}
-use Rattle.std.proofs.lemmas.List.{take-append-drop, append_assoc, append-nil, length-append, length-take-le, reverse-append, reverse-reverse}
+use Rattle.std.proofs.lemmas.List.{append_assoc, append-nil, reverse-reverse}
 use Rattle.std.proofs.lemmas.List.Folds.{list_any-append}
 use Rattle.std.proofs.lemmas.Grind.{reverse_onto}
 use Rattle.std.proofs.lemmas.List.Elements.{All-cons, All-head, All-tail, All-nil}
 use Rattle.module_order.specs.declared.slots.Slot.{Slot}
-use Rattle.module_order.specs.Slot.{is_slot}
 use Rattle.module_order.proofs.SlotLemmas.{slot_is}
 use Rattle.history.specs.declared.items.Item.{Item}
-use Rattle.history.specs.Item.{slot_of, is_of, has_item, last_items, without_items, top_item}
-use Rattle.history.specs.After.{overwrites, with_item}
+use Rattle.history.specs.Item.{slot_of, is_of, has_item, last_items}
+use Rattle.history.specs.After.{overwrites}
 
 -- an item that overwrites has one below it
 pub overwrites-some : (items : List Item) (item : Item) → overwrites items item ≡ true → 0 < length items

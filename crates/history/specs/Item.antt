@@ -1,9 +1,6 @@
 -- Items of a history, and lists of them.
-use Rattle.std.specs.Prelude.{ℕ, ◌-◌, Bool, true, false, not, if◌then◌else◌, List, [], ◌∷◌, length, slice_get, Option}
+use Rattle.std.specs.Prelude.{◌-◌, Bool, not, if◌then◌else◌, List, [], ◌∷◌, length, slice_get, Option}
 use Rattle.std.specs.List.{filter, list_any}
-use Rattle.std.specs.Option.{option_map_or}
-use Rattle.params.specs.declared.modules.Module.{Module}
-use Rattle.params.specs.declared.modules.Module.TheVariants as modules
 use Rattle.params.specs.Names.{number_of}
 use Rattle.params.specs.Ranges.{module_of}
 use Rattle.module_order.specs.declared.slots.Slot.{Slot}

@@ -1,18 +1,17 @@
 -- Lemmas on the first fault of a list of slots.
-use Rattle.std.proofs.Common.{◌≡◌, ℕ, ◌+◌, ◌-◌, ◌<◌, ◌≤◌, Bool, true, false, not, cond, List, [], ◌∷◌, ◌++◌, length, get_or, take, drop, zero, suc, refl, sym, ap, ◌∙◌, subst, arith, Option, Some, None, inl, inr, ⊎_elim}
+use Rattle.std.proofs.Common.{◌≡◌, ℕ, ◌+◌, ◌-◌, ◌<◌, ◌≤◌, true, false, cond, List, [], ◌∷◌, ◌++◌, length, get_or, take, drop, zero, suc, refl, sym, ap, ◌∙◌, subst, arith, Option, Some, None, ⊎_elim}
 use Rattle.std.specs.Prelude.{slice_get}
-use Rattle.std.specs.List.{All, filter, filter_map, cons_option, list_any, range_with_len, starts_with}
-use Rattle.std.proofs.lemmas.Bool.{cases_lt, cases_eq, false≢true}
+use Rattle.std.specs.List.{filter_map, cons_option, range_with_len, starts_with}
+use Rattle.std.proofs.lemmas.Bool.{cases_lt}
 use Rattle.std.proofs.lemmas.Bool.Decides.{nat_tests}
-use Rattle.std.proofs.lemmas.Option.{slice_get-get_or, get_or_from_slice_get, slice_get_within}
-use Rattle.std.proofs.lemmas.List.{take_more, take_all, get_or_default, length-take, take-append-drop, get_or-drop, length-drop, length-append, append-nil}
-use Rattle.std.proofs.lemmas.List.Elements.{All-get_or, All-from_get_or}
+use Rattle.std.proofs.lemmas.Option.{slice_get-get_or}
+use Rattle.std.proofs.lemmas.List.{take_more, take_all, get_or_default, length-take, get_or-drop, length-drop}
 use Rattle.module_order.specs.declared.slots.Slot.{Slot}
 use Rattle.module_order.specs.declared.fault.OrderFault.{OrderFault}
 use Rattle.module_order.specs.Slot.{slot, is_slot, has_slot, fixed_slots}
 use Rattle.module_order.specs.Order.{IsOrder, AreDistinct}
 use Rattle.module_order.specs.Faults.{find_map, fault_at, slot_fault, first_fault, order_fault}
-use Rattle.module_order.proofs.SlotLemmas.{times, times_none, none_from_times, times-append, times-one, times_front, distinct_more, is_slot-own, slot_is}
+use Rattle.module_order.proofs.SlotLemmas.{times, none_from_times, times-append, times-one, times_front, distinct_more, is_slot-own, slot_is}
 use lib.Pointwise.{pointwise_decides}
 
 -- the first answer over the numbers from a on

@@ -1,15 +1,15 @@
 -- Lemmas on orders: what an insertion and a removal keep.
-use Rattle.std.proofs.Common.{◌≡◌, ℕ, ◌+◌, ◌-◌, ◌<◌, ◌≤◌, Bool, true, false, not, cond, List, [], ◌∷◌, ◌++◌, length, get_or, take, drop, zero, suc, refl, sym, ap, ◌∙◌, subst, arith, None}
-use Rattle.std.specs.List.{All, filter, list_any, remove, insert}
+use Rattle.std.proofs.Common.{◌≡◌, ℕ, ◌+◌, ◌-◌, ◌<◌, ◌≤◌, false, not, List, ◌∷◌, ◌++◌, length, take, drop, sym, ap, ◌∙◌, subst, arith, None}
+use Rattle.std.specs.List.{insert}
 use Rattle.std.proofs.lemmas.Bool.Decides.{nat_tests}
-use Rattle.std.proofs.lemmas.List.{take-append-drop, take-append-le, take-take, drop-append-le, drop-take, drop-drop, length-take-le, length-append, length-drop}
+use Rattle.std.proofs.lemmas.List.{take-append-drop, take-append-le, take-take, drop-append-le, drop-take, drop-drop, length-take-le}
 use Rattle.std.proofs.lemmas.List.Edits.{length-insert}
 use Rattle.std.proofs.lemmas.List.Elements.{All-append, All-cons, All-take, All-drop, All-filter, All-same, filter-append}
 use Rattle.module_order.specs.declared.slots.Slot.{Slot}
-use Rattle.module_order.specs.Slot.{slot, is_slot, has_slot, without, fixed_slots}
-use Rattle.module_order.specs.Order.{IsOrder, AreDistinct}
+use Rattle.module_order.specs.Slot.{is_slot, has_slot, without, fixed_slots}
+use Rattle.module_order.specs.Order.{IsOrder}
 use Rattle.module_order.specs.Faults.{insert_fault, remove_fault, move_fault}
-use Rattle.module_order.proofs.SlotLemmas.{times, distinct_more, times-insert, times_without, without_none, times_none, without_leaves}
+use Rattle.module_order.proofs.SlotLemmas.{distinct_more, times-insert, times_without, without_none, times_none, without_leaves}
 
 abbrev IsMovable : Slot → Type 0
 IsMovable s = 3 ≤ s.module

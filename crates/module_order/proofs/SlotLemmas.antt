@@ -1,6 +1,6 @@
 -- Lemmas on lists of slots.
-use Rattle.std.proofs.Common.{◌≡◌, ℕ, ◌+◌, ◌<◌, ◌≤◌, Bool, true, false, not, cond, ◌&&◌, ◌||◌, eqb, List, [], ◌∷◌, ◌++◌, length, get_or, take, drop, zero, suc, refl, sym, ap, ◌∙◌, subst, arith}
-use Rattle.std.specs.List.{filter, list_any, remove, insert, position, position_or_len}
+use Rattle.std.proofs.Common.{◌≡◌, ℕ, ◌+◌, ◌<◌, ◌≤◌, Bool, true, false, not, cond, ◌||◌, List, [], ◌∷◌, ◌++◌, length, get_or, take, drop, zero, suc, refl, sym, ap, ◌∙◌, subst, arith}
+use Rattle.std.specs.List.{filter, remove, insert, position, position_or_len}
 use Rattle.std.specs.Prelude.{is_some}
 use Rattle.std.proofs.lemmas.Bool.{false≢true}
 use Rattle.std.proofs.lemmas.Bool.Decides.{nat_tests}
@@ -9,7 +9,7 @@ use Rattle.std.proofs.lemmas.List.Elements.{filter-append}
 use Rattle.std.proofs.lemmas.List.Folds.{list_any-append}
 use Rattle.std.proofs.lemmas.Map.Views.{any-filter_same}
 use Rattle.module_order.specs.declared.slots.Slot.{Slot}
-use Rattle.module_order.specs.Slot.{slot, is_slot, has_slot, without}
+use Rattle.module_order.specs.Slot.{is_slot, has_slot, without}
 
 -- how many times the slot s stands in the list
 abbrev pub times : Slot → List Slot → ℕ
@@ -55,14 +55,15 @@ has_place s (x ∷ xs) h =
 pub no_place : (s : Slot) (xs : List Slot) → has_slot xs s ≡ false → length xs ≤ position_or_len (is_slot s) xs
 no_place s [] h = omega arith
 no_place s (x ∷ xs) h =
-  elim (is_slot s x) as (λ b. (b || has_slot xs s) ≡ false → suc (length xs) ≤ cond {A = ℕ} (not b) (1 + position_or_len (is_slot s) xs) 0)
+    elim (is_slot s x) as (λ b. (b || has_slot xs s) ≡ false → suc (length xs) ≤ cond {A = ℕ} (not b) (1 + position_or_len (is_slot s) xs) 0)
     [ true ↦ λ e. absurd (false≢true (sym e)) | false ↦ λ e. let l = no_place s xs e in omega arith ] h
 
 pub is_some-position : (s : Slot) (xs : List Slot) → is_some (position (is_slot s) xs) ≡ has_slot xs s
 is_some-position s xs =
-  elim (has_slot xs s) as (λ b. has_slot xs s ≡ b → is_some (position (is_slot s) xs) ≡ b)
-    [ true ↦ λ e. let l = has_place s xs e in grind (arith, nat_tests)
-    | false ↦ λ e. let l = no_place s xs e in grind (arith, nat_tests) ] refl
+    elim (has_slot xs s) as (λ b. has_slot xs s ≡ b → is_some (position (is_slot s) xs) ≡ b) [
+      | true ↦ λ e. let l = has_place s xs e in grind (arith, nat_tests)
+      | false ↦ λ e. let l = no_place s xs e in grind (arith, nat_tests)
+    ] refl
 
 -- a slot at a place stands in the list
 pub times_at : (s : Slot) (xs : List Slot) (i : ℕ) → i < length xs → is_slot s (get_or xs i s) ≡ true → 1 ≤ times s xs

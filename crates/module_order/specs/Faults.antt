@@ -1,5 +1,5 @@
 -- What is wrong with a list of slots, or with a change of an order: the first fault, in the order of the tests.
-use Rattle.std.specs.Prelude.{ℕ, ◌-◌, Bool, ◌||◌, not, nat_lt, nat_le, if◌then◌else◌, List, length, take, slice_get, Option, Some, None, option_and_then, Result, Ok, Err}
+use Rattle.std.specs.Prelude.{ℕ, ◌-◌, ◌||◌, not, nat_lt, nat_le, if◌then◌else◌, List, length, take, slice_get, Option, Some, None, option_and_then, Result, Ok, Err}
 use Rattle.std.specs.List.{filter_map, range_with_len, starts_with}
 use Rattle.module_order.specs.declared.slots.Slot.{Slot}
 use Rattle.module_order.specs.declared.fault.OrderFault.{OrderFault}

@@ -1,4 +1,4 @@
-use Rattle.std.proofs.Common.{◌≤◌, length, take, ap, arith}
+use Rattle.std.proofs.Common.{length, take, ap, arith}
 use Rattle.std.proofs.lemmas.List.{length-take-le}
 use Rattle.history.proofs.HistoryLemmas.{IsHistory-compressed}
 use Rattle.history.proofs.ItemLemmas.{length-last_items}

@@ -1,7 +1,3 @@
-use Rattle.std.proofs.Common.{arith, subst, sym, ◌≡◌, List, None, length, ◌+◌}
-use Rattle.module_order.specs.declared.slots.Slot.{Slot}
-use Rattle.module_order.specs.Faults.{remove_fault}
-use Rattle.module_order.specs.Slot.{without}
 use Rattle.module_order.proofs.OrderLemmas.{IsOrder-without, IsMovable-removed}
 use Rattle.module_order.proofs.sequence.Order.remove.Goals as goal
 
