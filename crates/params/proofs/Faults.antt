@@ -1,12 +1,15 @@
 -- The first fault of a list of entries.
-use Rattle.std.proofs.Common.{◌≡◌, ℕ, ◌+◌, ◌<◌, ◌≤◌, ℤ, pos, negsuc, ◌≤ℤ◌, ◌<ℤ◌, Bool, true, false, List, [], ◌∷◌, ◌++◌, length, get_or, drop, map, Result, Ok, Err, IsOk, ◌↔◌, refl, sym, ap, ◌∙◌, arith}
+use Rattle.std.proofs.Common.{◌≡◌, ℕ, ◌+◌, ◌<◌, ◌≤◌, ℤ, pos, negsuc, ◌≤ℤ◌, ◌<ℤ◌, Bool, true, false, List, [], ◌∷◌, ◌++◌, length, get_or, drop, Option, Some, None, Result, Ok, Err, IsOk, IsTrue, OnOk, ◌↔◌, refl, sym, ap, ◌∙◌, arith}
 use Rattle.std.specs.Bool.{⊤, Decides, if◌then◌else◌}
+use Rattle.std.specs.List.{AllByRecursion}
 use Rattle.std.specs.Int.RustNames.{int_le, int_lt}
 use Rattle.std.proofs.lemmas.Bool.Decides.{Decides-int_eq, Decides-and, Decides-not}
 use Rattle.std.proofs.lemmas.Int.{ints}
 use Rattle.std.proofs.lemmas.List.{at_drop_more, at_drop_all, drop_more}
-use Rattle.params.specs.Rules.{first_fault, held, or_else, keeps, Keeps, AllKept, fault_at}
-use Rattle.params.specs.Ranges.{node_entries, nodes_entries, count_entry, curve_entries}
+use Rattle.params.specs.Rules.{IsKept, first_fault, held, or_else, keeps, Keeps, AllKept, fault_at}
+use Rattle.params.specs.Ranges.{node_entries, nodes_entries, count_entry, curve_entries, check_blend_of, IsBlendFit, blends, blend_fault, blend_entries, stated_blend}
+use Rattle.params.specs.declared.blending.Blend.{Blend}
+use Rattle.params.specs.declared.modules.Module.{Module}
 use Rattle.params.specs.declared.rules.Entry.{Entry}
 use Rattle.params.specs.declared.rules.Rule.{Rule}
 use Rattle.params.specs.declared.rules.Rule.TheVariants.{Between, Above, NotBothZero}
@@ -56,23 +59,45 @@ both_kept : (b : Bool) (f : ParamFault) (rest : Result ⊤ ParamFault) → or_el
 both_kept true f rest e = (refl, e)
 both_kept false f rest e = cc
 
+each_kept : (es : List Entry) → first_fault es ≡ Ok tt → AllByRecursion IsKept es
+unfolding first_fault
+each_kept [] e = tt
+each_kept (x ∷ es) e =
+    let both = both_kept (keeps x.value x.rule) (fault_at x) (first_fault es) e in
+    ((keeps-Decides x.value x.rule).0 both.0, each_kept es both.1)
+
 -- where no entry is at fault, each is kept
 pub all_kept : (es : List Entry) → first_fault es ≡ Ok tt → AllKept es
+all_kept es e = record { kept = each_kept es e }
+
+none_of_each : (es : List Entry) → AllByRecursion IsKept es → first_fault es ≡ Ok tt
 unfolding first_fault
-all_kept [] e = tt
-all_kept (x ∷ es) e =
-    let both = both_kept (keeps x.value x.rule) (fault_at x) (first_fault es) e in
-    ((keeps-Decides x.value x.rule).0 both.0, all_kept es both.1)
+none_of_each [] h = refl
+none_of_each (x ∷ es) h = ap (λ b. or_else (if b then Ok tt else Err (fault_at x)) (first_fault es)) ((keeps-Decides x.value x.rule).1 h.0) ∙ none_of_each es h.1
 
 pub none_at_fault : (es : List Entry) → AllKept es → first_fault es ≡ Ok tt
-unfolding first_fault
-none_at_fault [] h = refl
-none_at_fault (x ∷ es) h = ap (λ b. or_else (if b then Ok tt else Err (fault_at x)) (first_fault es)) ((keeps-Decides x.value x.rule).1 h.0) ∙ none_at_fault es h.1
+none_at_fault es h = none_of_each es h.kept
+
+pub kept_on_ok : (es : List Entry) (r : Result ⊤ ParamFault) → r ≡ first_fault es → OnOk r (AllKept es)
+kept_on_ok es (Ok t) e = all_kept es (sym e)
+kept_on_ok es (Err f) e = tt
 
 -- the answer is none exactly where all are kept
 pub within_tells : (es : List Entry) (r : Result ⊤ ParamFault) → r ≡ first_fault es → IsOk r ↔ AllKept es
 within_tells es (Ok t) e = (λ _. all_kept es (sym e), λ _. refl)
 within_tells es (Err f) e = (λ h. cc, λ h. cc (none_at_fault es h))
+
+pub within_sized : {X : Type 0} (xs : List X) (n : ℕ) (es : List Entry) (r : Result ⊤ ParamFault) → length xs ≡ n → r ≡ first_fault es → IsOk r ↔ ((length xs ≡ n) × AllKept es)
+within_sized xs n es r len e = let t = within_tells es r e in (λ h. (len, t.0 h), λ h. t.1 h.1)
+
+fit_at : (b : Bool) (f : ParamFault) (es : List Entry) (r : Result ⊤ ParamFault) → r ≡ (if b then first_fault es else Err f) → IsOk r ↔ (IsTrue b × AllKept es)
+fit_at true f es r e = let t = within_tells es r e in (λ h. (refl, t.0 h), λ h. t.1 h.1)
+fit_at false f es r e = (λ h. cc, λ h. cc (h.0))
+
+-- a blend is fit exactly where its check has no fault
+pub fit_tells : (m : Module) (blend : Option Blend) (r : Result ⊤ ParamFault) → r ≡ check_blend_of m blend → IsOk r ↔ IsBlendFit m blend
+fit_tells m None r e = (λ h. tt, λ h. rw e refl)
+fit_tells m (Some b) r e = fit_at (blends m) blend_fault (blend_entries (stated_blend b)) r e
 
 -- ---- nodes
 
@@ -86,22 +111,28 @@ pub node_here : (field : Field) (at : ℕ) (before : ℤ) (node : ℤ × ℤ) (n
     → first_fault (nodes_entries field at before (node ∷ nodes)) ≡ Err f
 node_here field at before node nodes f e = first_fault-append (node_entries field at before node []) _ ∙ ap (λ r. or_else r (first_fault (nodes_entries field (at + 1) node.0 nodes))) e
 
--- ---- the loop over nodes of a type that w widens
+-- ---- the loop over nodes of a type that w widens, whose list V widens
 
-pub nodes_behind : {X : Type 0} (w : X → ℤ × ℤ) (field : Field) (at : ℕ) (before : ℤ) (ns : List X) (i : ℕ) (d : X) → i < length ns
+pub nodes_behind : {X : Type 0} (V : List X → List (ℤ × ℤ)) (w : X → ℤ × ℤ) → ((x : X) (xs : List X) → V (x ∷ xs) ≡ w x ∷ V xs)
+    → (field : Field) (at : ℕ) (before : ℤ) (ns : List X) (i : ℕ) (d : X) → i < length ns
     → first_fault (node_entries field at before (w (get_or ns i d)) []) ≡ Ok tt
-    → first_fault (nodes_entries field at before (map w (drop i ns))) ≡ first_fault (nodes_entries field (at + 1) (w (get_or ns i d)).0 (map w (drop (i + 1) ns)))
-nodes_behind w field at before ns i d h e = ap (λ l. first_fault (nodes_entries field at before (map w l))) (drop_more ns i d h) ∙ node_behind field at before (w (get_or ns i d)) _ e
+    → first_fault (nodes_entries field at before (V (drop i ns))) ≡ first_fault (nodes_entries field (at + 1) (w (get_or ns i d)).0 (V (drop (i + 1) ns)))
+nodes_behind V w step field at before ns i d h e =
+    ap (λ l. first_fault (nodes_entries field at before l)) (ap V (drop_more ns i d h) ∙ step (get_or ns i d) (drop (i + 1) ns)) ∙ node_behind field at before (w (get_or ns i d)) _ e
 
-pub nodes_here : {X : Type 0} (w : X → ℤ × ℤ) (field : Field) (at : ℕ) (before : ℤ) (ns : List X) (i : ℕ) (d : X) (f : ParamFault) → i < length ns
+pub nodes_here : {X : Type 0} (V : List X → List (ℤ × ℤ)) (w : X → ℤ × ℤ) → ((x : X) (xs : List X) → V (x ∷ xs) ≡ w x ∷ V xs)
+    → (field : Field) (at : ℕ) (before : ℤ) (ns : List X) (i : ℕ) (d : X) (f : ParamFault) → i < length ns
     → first_fault (node_entries field at before (w (get_or ns i d)) []) ≡ Err f
-    → first_fault (nodes_entries field at before (map w (drop i ns))) ≡ Err f
-nodes_here w field at before ns i d f h e = ap (λ l. first_fault (nodes_entries field at before (map w l))) (drop_more ns i d h) ∙ node_here field at before (w (get_or ns i d)) _ f e
+    → first_fault (nodes_entries field at before (V (drop i ns))) ≡ Err f
+nodes_here V w step field at before ns i d f h e =
+    ap (λ l. first_fault (nodes_entries field at before l)) (ap V (drop_more ns i d h) ∙ step (get_or ns i d) (drop (i + 1) ns)) ∙ node_here field at before (w (get_or ns i d)) _ f e
 
-pub nodes_done : {X : Type 0} (w : X → ℤ × ℤ) (field : Field) (at : ℕ) (before : ℤ) (ns : List X) (i : ℕ) → length ns ≤ i
-    → first_fault (nodes_entries field at before (map w (drop i ns))) ≡ Ok tt
+pub nodes_done : {X : Type 0} (V : List X → List (ℤ × ℤ)) → V [] ≡ []
+    → (field : Field) (at : ℕ) (before : ℤ) (ns : List X) (i : ℕ) → length ns ≤ i
+    → first_fault (nodes_entries field at before (V (drop i ns))) ≡ Ok tt
 unfolding first_fault
-nodes_done w field at before ns i h = at_drop_all (λ l. first_fault (nodes_entries field at before (map w l))) ns i h
+nodes_done V none field at before ns i h =
+    at_drop_all (λ l. first_fault (nodes_entries field at before (V l))) ns i h ∙ ap (λ l. first_fault (nodes_entries field at before l)) none
 
 -- where the number of nodes is kept, the nodes decide
 pub count_behind : (field : Field) (nodes : List (ℤ × ℤ)) → first_fault (count_entry field (pos (length nodes)) ∷ []) ≡ Ok tt → first_fault (curve_entries field nodes) ≡ first_fault (nodes_entries field 0 (negsuc 0) nodes)
@@ -112,4 +143,4 @@ count_here field nodes f e = first_fault-append (count_entry field (pos (length 
 
 -- a number of nodes that is kept is at most 20
 pub few_nodes : (field : Field) (n : ℕ) → first_fault (count_entry field (pos n) ∷ []) ≡ Ok tt → n ≤ 20
-few_nodes field n e = let kept = all_kept (count_entry field (pos n) ∷ []) e in omega (arith, ints, kept.0.1)
+few_nodes field n e = let kept = all_kept (count_entry field (pos n) ∷ []) e in omega (arith, ints, kept.kept.0.1)

@@ -1,5 +1,5 @@
 -- The range of each number of the settings, in the order of the checks.
-use Rattle.std.specs.Prelude.{ℕ, ◌+◌, ℤ, pos, negsuc, List, [], ◌∷◌, length, map, slice_index, slice_index_or, option_map, ⊤, Option, Some, None, Result, Ok, Err, if◌then◌else◌, Bool, true, false}
+use Rattle.std.specs.Prelude.{◌≡◌, IsTrue, ℕ, ◌+◌, ℤ, pos, negsuc, List, [], ◌∷◌, length, map, slice_index, slice_index_or, option_map, ⊤, Option, Some, None, Result, Ok, Err, if◌then◌else◌, Bool, true, false}
 use Rattle.params.specs.declared.blending.Blend.{Blend}
 use Rattle.params.specs.declared.blending.Shape.{Shape}
 use Rattle.params.specs.declared.blending.Shape.TheVariants as shape
@@ -15,6 +15,8 @@ use Rattle.params.specs.declared.settings.Params.{Params}
 use Rattle.params.specs.declared.settings.Params.TheVariants as params
 use Rattle.params.specs.declared.settings.RawPrepare.{RawPrepare}
 use Rattle.params.specs.declared.settings.Crop.{Crop}
+use Rattle.params.specs.declared.settings.Temperature.{Temperature}
+use Rattle.params.specs.declared.settings.ToneCurve.{ToneCurve}
 use Rattle.params.specs.declared.settings.Exposure.{Exposure}
 use Rattle.params.specs.declared.settings.ChannelMixer.{ChannelMixer}
 use Rattle.params.specs.declared.stated.StatedRaw.{StatedRaw}
@@ -151,9 +153,36 @@ entries_of (params.Exposure p) = exposure_entries (stated_exposure p)
 entries_of (params.ChannelMixer p) = mixer_entries (stated_mixer p)
 entries_of (params.ToneCurve p) = curve_entries field.Nodes (wide_nodes p.nodes)
 
--- the settings are within their ranges
+-- ---- within the ranges, each settings type by itself
+
+abbrev pub IsRawWithin : RawPrepare → Type 0
+IsRawWithin p = (length p.black ≡ 3) × AllKept (raw_entries (stated_raw p))
+
+abbrev pub IsTemperatureWithin : Temperature → Type 0
+IsTemperatureWithin p = (length p.mul ≡ 3) × AllKept (temperature_entries (wide_three p.mul))
+
+abbrev pub IsCropWithin : Crop → Type 0
+IsCropWithin p = AllKept (crop_entries (stated_crop p))
+
+abbrev pub IsExposureWithin : Exposure → Type 0
+IsExposureWithin p = AllKept (exposure_entries (stated_exposure p))
+
+abbrev pub IsMixerWithin : ChannelMixer → Type 0
+IsMixerWithin p = (length p.rows ≡ 9) × AllKept (mixer_entries (stated_mixer p))
+
+abbrev pub IsCurveWithin : ToneCurve → Type 0
+IsCurveWithin p = AllKept (curve_entries field.Nodes (wide_nodes p.nodes))
+
+-- the settings are within their ranges, and their arrays are as long as the type's
 abbrev pub IsWithin : Params → Type 0
-IsWithin p = AllKept (entries_of p)
+IsWithin (params.RawPrepare p) = IsRawWithin p
+IsWithin (params.Temperature p) = IsTemperatureWithin p
+IsWithin params.Demosaic = ⊤
+IsWithin (params.Orientation p) = ⊤
+IsWithin (params.Crop p) = IsCropWithin p
+IsWithin (params.Exposure p) = IsExposureWithin p
+IsWithin (params.ChannelMixer p) = IsMixerWithin p
+IsWithin (params.ToneCurve p) = IsCurveWithin p
 
 -- the first number outside its range
 abbrev pub check_of : Params → Result ⊤ ParamFault
@@ -169,9 +198,18 @@ blends modules.Exposure = true
 blends modules.ChannelMixer = true
 blends modules.ToneCurve = true
 
+-- a mask is within its ranges
+abbrev pub IsShapeWithin : Shape → Type 0
+IsShapeWithin s = AllKept (mask_entries (Some (stated_shape s)))
+
 -- a blend is within its ranges, whatever its module
 abbrev pub IsBlendWithin : Blend → Type 0
 IsBlendWithin b = AllKept (blend_entries (stated_blend b))
+
+-- a module's blend: there is none, or the module blends and the blend is within its ranges
+abbrev pub IsBlendFit : Module → Option Blend → Type 0
+IsBlendFit m None = ⊤
+IsBlendFit m (Some b) = IsTrue (blends m) × IsBlendWithin b
 
 abbrev pub blend_fault : ParamFault
 blend_fault = record { field = field.Blend; at = 0; value = pos 0 }

@@ -39,8 +39,8 @@ abbrev pub IsKept : Entry → Type 0
 IsKept e = Keeps e.value e.rule
 
 -- all entries are kept
-abbrev pub AllKept : List Entry → Type 0
-AllKept entries = AllByRecursion IsKept entries
+pub record AllKept (entries : List Entry) : Type 0 where
+  pub kept : AllByRecursion IsKept entries
 
 abbrev pub fault_at : Entry → ParamFault
 fault_at e = record { field = e.field; at = e.at; value = e.value }

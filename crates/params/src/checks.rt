@@ -1,6 +1,6 @@
 ghost use Rattle.std.specs.Prelude.{◌≡◌, ◌↔◌, IsOk};
 ghost use Rattle.std.specs.Option.{option_copied};
-ghost use Rattle.params.specs.Ranges.{check_of, check_blend_of, IsWithin, blends};
+ghost use Rattle.params.specs.Ranges.{check_of, check_blend_of, IsWithin, IsBlendFit, blends};
 
 use crate::blending::Blend;
 use crate::curve::curve_fault;
@@ -17,7 +17,7 @@ use crate::widen::{
 
 /// Holds settings to their ranges: the fault is the first number, in the order of the fields, that lies
 /// outside its range.
-#[tactic(auto, using(crate::proofs::Faults::within_tells), unfolding(crate::specs::Rules::first_fault))]
+#[tactic(auto, using(crate::proofs::Faults::within_tells, crate::proofs::Faults::within_sized), unfolding(crate::specs::Rules::first_fault))]
 pub fn check(params: &Params) -> Result<(), ParamFault>
     ensures value { result ≡ check_of params.now }
     ensures within { IsOk result ↔ IsWithin params.now }
@@ -50,8 +50,10 @@ impl Module {
 /// Holds a blend at a module to its ranges. A blend on a module that doesn't blend is the field `Blend`
 /// with the value 0; else the fault is the first number, in the order of the fields, that lies outside
 /// its range.
+#[tactic(auto, using(crate::proofs::Faults::fit_tells))]
 pub fn check_blend(module: Module, blend: Option<&Blend>) -> Result<(), ParamFault>
     ensures value { result ≡ check_blend_of «module» (option_copied blend.entry) }
+    ensures fit { IsOk result ↔ IsBlendFit «module» (option_copied blend.entry) }
 {
     match blend {
         None => Ok(()),

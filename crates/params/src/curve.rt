@@ -1,6 +1,6 @@
 //! The range of the nodes of a tone curve.
 ghost use Rattle.std.specs.Prelude.{◌≡◌, ◌∷◌, [], ◌≤◌, ◌<◌, ◌^◌, pos, negsuc, length, OnOk};
-ghost use Rattle.params.specs.Rules.{first_fault};
+ghost use Rattle.params.specs.Rules.{first_fault, AllKept};
 ghost use Rattle.params.specs.Ranges.{node_entries, nodes_entries, curve_entries, count_entry, wide_nodes};
 
 use crate::fault::{Field, ParamFault};
@@ -16,7 +16,8 @@ pub(crate) fn node_fault(
     before: i64,
     node: (i64, i64),
 ) -> Result<(), ParamFault>
-    ensures { result ≡ first_fault (node_entries field at before node []) }
+    ensures value { result ≡ first_fault (node_entries field at before node []) }
+    ensures kept { OnOk result (AllKept (node_entries field at before node [])) }
 {
     let value = Rule::Between(0, TOP);
     first_fault(&[

@@ -1,6 +1,8 @@
 ghost use Rattle.std.specs.Prelude.{◌≡◌, Some};
 ghost use Rattle.params.specs.Names.{name_of_field};
+ghost use Rattle.params.specs.declared.fault.JsonEnd.TheVariants.{Param, Memory};
 
+use std::alloc::{AllocError, AllocFailed};
 use std::fmt;
 use thiserror::Error;
 
@@ -90,4 +92,40 @@ pub struct ParamFault {
     pub field: Field,
     pub at: u32,
     pub value: i64,
+}
+
+/// Why a JSON value isn't settings or a blend: it hasn't their form, or it has and a number lies outside
+/// its range, or memory ran out.
+#[derive(Debug, Drop, Error)]
+pub enum JsonEnd {
+    #[error("form")]
+    Form,
+    #[error("param {0}")]
+    Param(ParamFault),
+    #[error("out of memory")]
+    Memory,
+}
+
+impl From<ParamFault> for JsonEnd {
+    ghost from_gives = { λ fault end. end ≡ Param fault };
+
+    fn from(fault: ParamFault) -> JsonEnd {
+        JsonEnd::Param(fault)
+    }
+}
+
+impl From<AllocError> for JsonEnd {
+    ghost from_gives = { λ _ end. end ≡ Memory };
+
+    fn from(_refused: AllocError) -> JsonEnd {
+        JsonEnd::Memory
+    }
+}
+
+impl<T: Drop> From<AllocFailed<T>> for JsonEnd {
+    ghost from_gives = { λ _ end. end ≡ Memory };
+
+    fn from(_refused: AllocFailed<T>) -> JsonEnd {
+        JsonEnd::Memory
+    }
 }

@@ -1,5 +1,5 @@
 //! Settings of a type, as they are stated.
-ghost use Rattle.std.specs.Prelude.{◌≡◌};
+ghost use Rattle.std.specs.Prelude.{◌≡◌, length};
 ghost use Rattle.params.specs.Ranges.{wide_three, stated_raw, stated_crop, stated_exposure, stated_mixer, stated_shape, stated_blend};
 
 use crate::blending::{Blend, Shape};
@@ -10,7 +10,8 @@ use crate::stated::{
 };
 
 pub(crate) fn wide_three(numbers: &[u32; 3]) -> Three
-    ensures { result ≡ wide_three numbers.now }
+    ensures value { result ≡ wide_three numbers.now }
+    ensures sized { length numbers.now ≡ 3 }
 {
     (
         i64::from(numbers[0]),
@@ -20,7 +21,8 @@ pub(crate) fn wide_three(numbers: &[u32; 3]) -> Three
 }
 
 pub(crate) fn stated_raw(raw: &RawPrepare) -> StatedRaw
-    ensures { result ≡ stated_raw raw.now }
+    ensures value { result ≡ stated_raw raw.now }
+    ensures sized { length raw.now.black ≡ 3 }
 {
     StatedRaw {
         black: wide_three(&raw.black),
@@ -49,7 +51,8 @@ pub(crate) fn stated_exposure(exposure: &Exposure) -> StatedExposure
 }
 
 pub(crate) fn stated_mixer(mixer: &ChannelMixer) -> (Three, Three, Three)
-    ensures { result ≡ stated_mixer mixer.now }
+    ensures value { result ≡ stated_mixer mixer.now }
+    ensures sized { length mixer.now.rows ≡ 9 }
 {
     let rows = mixer.rows;
     (

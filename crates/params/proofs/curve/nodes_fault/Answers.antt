@@ -1,8 +1,8 @@
-use Rattle.std.proofs.Common.{◌≡◌, arith, sym, ◌∙◌, get_or, [], Err}
+use Rattle.std.proofs.Common.{◌≡◌, arith, refl, sym, ◌∙◌, get_or, [], Err}
 use Rattle.std.proofs.lemmas.Grind.{common_steps}
 use Rattle.std.proofs.lemmas.Int.{to_z-of_z}
 use Rattle.std.proofs.lemmas.Result.{err_from_is_err_and}
-use Rattle.params.specs.Ranges.{wide_node, node_entries}
+use Rattle.params.specs.Ranges.{wide_node, wide_nodes, node_entries}
 use Rattle.params.specs.Rules.{first_fault}
 use Rattle.params.proofs.Faults.{nodes_behind, nodes_here, nodes_done}
 use Rattle.params.proofs.curve.nodes_fault.Goals as goal
@@ -15,13 +15,13 @@ returns-in_err-node_fault c =
     let here : first_fault (node_entries c.args.field l.at l.before (wide_node (get_or nodes l.node-index (0, 0))) []) ≡ Err c.in_err-node_fault.field-0.0 =
     grind (arith, to_z-of_z) in
     let same = rw l.before-is at l.invariant.same in
-    rw (p.1, p.2) (sym (nodes_here wide_node c.args.field l.at l.before nodes l.node-index (0, 0) _ c.loop-node-test.true here) ∙ same)
+    rw (p.1, p.2) (sym (nodes_here wide_nodes wide_node (λ _ _. refl) c.args.field l.at l.before nodes l.node-index (0, 0) _ c.loop-node-test.true here) ∙ same)
 
 pub loop-node-preserved : goal.loop-node-preserved
 loop-node-preserved c = record {
   at = grind arith;
-  same = grind (arith, common_steps, to_z-of_z, nodes_behind wide_node);
+  same = grind (arith, common_steps, to_z-of_z, nodes_behind wide_nodes wide_node (λ _ _. refl));
 }
 
 pub returns : goal.returns
-returns c = sym (nodes_done wide_node _ _ _ c.args.nodes.now c.loop-node.node-index c.loop-node-test.false) ∙ c.loop-node.invariant.same
+returns c = sym (nodes_done wide_nodes refl _ _ _ c.args.nodes.now c.loop-node.node-index c.loop-node-test.false) ∙ c.loop-node.invariant.same
