@@ -1,23 +1,25 @@
 -- Lemmas on histories: what each edit keeps.
 use Rattle.std.proofs.Common.{◌≡◌, ℕ, ◌-◌, ◌≤◌, Bool, true, false, not, cond, ◌||◌, List, [], ◌∷◌, ◌++◌, length, get_or, take, drop, refl, sym, ap, ◌∙◌, subst, arith, Option, Some, None}
 use Rattle.std.specs.List.{All, filter, count_by, insert, filter_map, cons_option}
-use Rattle.std.specs.Prelude.{slice_get}
+use Rattle.std.specs.Prelude.{slice_get, ⊤, Result, Ok, Err, option_map}
 use Rattle.module_order.specs.Faults.{find_map}
 use Rattle.std.proofs.lemmas.List.{take-append-drop, length-append, length-take-le}
 use Rattle.std.proofs.lemmas.List.Elements.{All-take, All-push, All-filter, All-same, All-weaker, All-cons, All-nil, All-head, All-tail, filter-append, filter_passes}
 use Rattle.std.proofs.lemmas.List.Filters.{length-filter_both}
 use Rattle.std.proofs.lemmas.List.Sums.{length-filter}
-use Rattle.params.specs.Ranges.{module_of}
+use Rattle.params.specs.declared.fault.ParamFault.{ParamFault}
+use Rattle.params.specs.Ranges.{module_of, check_of, check_blend_of}
 use Rattle.module_order.specs.declared.slots.Slot.{Slot}
 use Rattle.module_order.specs.Slot.{is_slot, has_slot, without}
 use Rattle.module_order.proofs.SlotLemmas.{slot_is, is_slot-own, has_slot-insert, has_slot-without}
 use Rattle.history.specs.declared.items.Item.{Item}
 use Rattle.history.specs.declared.fault.EditFault.{EditFault}
-use Rattle.history.specs.declared.fault.EditFault.TheVariants.{FixedModule, NoInstance}
+use Rattle.history.specs.declared.fault.EditFault.TheVariants.{FixedModule, NoInstance, BadParams}
 use Rattle.history.specs.Item.{slot_of, is_of, last_items, without_items}
 use Rattle.history.specs.Stack.{Stack, stack}
 use Rattle.history.specs.Faults.{item_fault, is_demosaic, end_fault, stack_fault}
 use Rattle.std.specs.Option.{option_or}
+use Rattle.std.specs.Result.{result_err}
 use Rattle.std.proofs.lemmas.Bool.Decides.{nat_tests}
 use Rattle.history.specs.History.{IsHistory}
 use Rattle.history.proofs.ItemLemmas.{All-last_items, or_true}
@@ -34,6 +36,21 @@ known_from false false values h = cc
 -- an item without a fault is of an instance in the order
 pub has_slot-Stands : (order : List Slot) (item : Item) → Stands order item → has_slot order (slot_of item) ≡ true
 has_slot-Stands order item h = known_from (is_demosaic (module_of item.params)) (has_slot order (slot_of item)) _ h
+
+values_from : (fixed known : Bool) (values : Option EditFault) → cond fixed (Some FixedModule) (cond (not known) (Some NoInstance) values) ≡ None → values ≡ None
+values_from true known values h = cc
+values_from false true values h = h
+values_from false false values h = cc
+
+checks_from : (params blend : Result ⊤ ParamFault) → option_map BadParams (option_or (result_err params) (result_err blend)) ≡ None → (params ≡ Ok tt) × (blend ≡ Ok tt)
+checks_from (Ok a) (Ok b) h = (refl, refl)
+checks_from (Ok a) (Err e) h = cc
+checks_from (Err e) blend h = cc
+
+-- the parameters and the blend of an item without a fault are within their ranges
+pub check-Stands : (order : List Slot) (item : Item) → Stands order item → (check_of item.params ≡ Ok tt) × (check_blend_of (module_of item.params) item.blend ≡ Ok tt)
+check-Stands order item h =
+  checks_from (check_of item.params) (check_blend_of (module_of item.params) item.blend) (values_from (is_demosaic (module_of item.params)) (has_slot order (slot_of item)) _ h)
 
 -- an item stands in each order that has its instance
 pub Stands-kept : (old new : List Slot) (item : Item) → has_slot new (slot_of item) ≡ true → Stands old item → Stands new item
