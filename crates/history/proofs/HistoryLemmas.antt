@@ -50,7 +50,7 @@ checks_from (Err e) blend h = cc
 -- the parameters and the blend of an item without a fault are within their ranges
 pub check-Stands : (order : List Slot) (item : Item) → Stands order item → (check_of item.params ≡ Ok tt) × (check_blend_of (module_of item.params) item.blend ≡ Ok tt)
 check-Stands order item h =
-  checks_from (check_of item.params) (check_blend_of (module_of item.params) item.blend) (values_from (is_demosaic (module_of item.params)) (has_slot order (slot_of item)) _ h)
+    checks_from (check_of item.params) (check_blend_of (module_of item.params) item.blend) (values_from (is_demosaic (module_of item.params)) (has_slot order (slot_of item)) _ h)
 
 -- an item stands in each order that has its instance
 pub Stands-kept : (old new : List Slot) (item : Item) → has_slot new (slot_of item) ≡ true → Stands old item → Stands new item
