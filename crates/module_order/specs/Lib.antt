@@ -1,0 +1,3 @@
+pub mod Slot
+pub mod Faults
+pub mod Order
