@@ -176,6 +176,16 @@ fn is_read_again(alloc: Global, params: &Params, text: &str) -> Result<bool, Fai
     Ok(written.as_str() == text && again == copy(alloc, params)?)
 }
 
+fn may_be_shared<T: Send + Sync>(_value: &T) -> bool {
+    true
+}
+
+#[test]
+fn settings_and_blends_may_be_shared_by_threads(rt: HostRuntime) {
+    assert!(rt; may_be_shared(&Params::Demosaic));
+    assert!(rt; may_be_shared(&None::<Blend>));
+}
+
 #[test]
 fn settings_are_written_and_read_again(rt: HostRuntime) -> Result<(), Fail> {
     let alloc = rt.alloc();
