@@ -3,10 +3,9 @@
 
 use develop_session::run_words;
 use outside::{HostSaid, HostShelf};
-use std::env;
-use std::io;
 use std::process::ExitCode;
 use std::rt::Env;
+use std::{env, io};
 
 // The words after the program's name.
 fn words<R: Env + AllocGlobal>(rt: &R) -> io::Result<Vec<String>> {
