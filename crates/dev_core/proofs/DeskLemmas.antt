@@ -262,3 +262,15 @@ module _ (s : SubjectSeen) (changes : ℕ) (j : Roomed Entry) (f : Roomed FrameS
         (λ yes. to_desk s changes j f d v (λ script x. IsDue script x p) is k (both.0 (behind.0 yes))),
         (λ due. behind.1 (both.1 (at_desk s changes j f d v (λ script x. IsDue script x p) is k due))),
       )
+
+pub later_by_moment : (s : SubjectSeen) (changes : ℕ) (j : Roomed Entry) (f : Roomed FrameSeen) (d : Desk) (v : DeskSeen)
+    → record { subject = s; journal = j.items } ≡ v → Keeps s changes j f d
+    → (name : JobName) (p : Pipe) (m : ℕ) (r : Bool) → name ≡ job.Pipe p → (IsTrue r ↔ (m < d.moment))
+    → IsTrue r ↔ OfPipe name (λ q. Later v.subject.script q m (now v).moment)
+later_by_moment s changes j f d v is k name p m r pipe below =
+    let F : JobName → Type 0 = λ n. IsTrue r ↔ OfPipe n (λ q. Later v.subject.script q m (now v).moment) in
+    subst F (sym pipe) (
+      (λ yes. to_desk s changes j f d v (λ script x. Later script p m x.moment) is k
+          (later_here s.script p m d.moment (below.0 yes) (moment_within s changes j f d k))),
+      (λ l. below.1 (later_below s.script p m d.moment (at_desk s changes j f d v (λ script x. Later script p m x.moment) is k l))),
+    )

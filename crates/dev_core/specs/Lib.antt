@@ -5,3 +5,4 @@ pub mod Jobs
 pub mod Desk
 pub mod Lines
 pub mod DeskState
+pub mod Own

@@ -2,7 +2,7 @@ ghost use Rattle.std.specs.Prelude.{◌≡◌, ◌↔◌, ◌≤◌, ◌+◌, []
 ghost use Rattle.std.specs.Arc.{arc_value};
 ghost use Rattle.outside.specs.declared.job_name.JobName.TheVariants.{Pipe as pipe_job};
 ghost use Rattle.dev_core.specs.declared.entry.Entry.TheVariants as entry;
-ghost use Rattle.dev_core.specs.Desk.{May, Legal, HoldsPipe, IsSuperseded, IsDueJob, IsComplete, IsNextStep};
+ghost use Rattle.dev_core.specs.Desk.{May, Legal, HoldsPipe, IsSuperseded, IsDueJob, Later, IsComplete, IsNextStep};
 ghost use Rattle.dev_core.specs.DeskState.{now, with_entry};
 ghost use Rattle.dev_core.specs.Jobs.{frame_of, OfPipe};
 ghost use Rattle.dev_core.specs.Lines.{frames_of};
@@ -117,6 +117,16 @@ impl DeskState {
     {
         match name {
             JobName::Pipe(pipe) => self.desk.is_behind(pipe),
+            JobName::Ticket(_) => false,
+        }
+    }
+
+    /// Whether a change after the job's moment concerns its pipe. The job is a pipe's.
+    pub fn is_superseded(&self, job: &Job) -> bool
+        ensures { IsTrue result ↔ OfPipe job.now.name (λ p. Later self.now.subject.script p job.now.moment (now self.now).moment) }
+    {
+        match job.name() {
+            JobName::Pipe(_) => job.moment() < self.desk.moment,
             JobName::Ticket(_) => false,
         }
     }
