@@ -1,0 +1,18 @@
+use Rattle.std.proofs.Common.{refl}
+use Rattle.stepped.proofs.MachineLemmas.{keeps_edited, changed_seen_by_edit}
+use Rattle.stepped.proofs.machine.Machine.edit.Goals as goal
+
+pub invariant_of-self-in-Step : goal.invariant_of-self-in-Step
+invariant_of-self-in-Step c =
+    let s = c.self.inside in
+    keeps_edited s.desk _ s.runs.items _ c.self.invariant (c.in-Step.ensures.1, refl) (λ has. refl) c.in_ok-change-in-Step.ensures.ok
+
+pub invariant_of-self-in-Close : goal.invariant_of-self-in-Close
+invariant_of-self-in-Close c =
+    let s = c.self.inside in
+    keeps_edited s.desk _ s.runs.items _ c.self.invariant (c.in-Close.ensures.1, c.in-Close.ensures.0) (λ has. refl) c.close.ensures
+
+pub returns-in_ok-change-in-Step : goal.returns-in_ok-change-in-Step
+returns-in_ok-change-in-Step c =
+    let s = c.self.inside in
+    changed_seen_by_edit s.desk _ s.runs.items _ _ c.self.view_is c.in_ok-change-in-Step.ensures.ok c.in-Step.ensures.1 c.moment.ensures.moment

@@ -1,0 +1,10 @@
+use Rattle.std.proofs.Common.{refl, Some}
+use Rattle.stepped.proofs.MachineLemmas.{keeps_changed}
+use Rattle.stepped.proofs.machine.Machine.load.Goals as goal
+
+pub invariant_of-self : goal.invariant_of-self
+invariant_of-self c =
+    let s = c.self.inside in
+    let o = c.take_run-run.result in
+    keeps_changed s.desk s.runs.items _ _ c.args.worker o (record o { stage = Some 0 }) c.self.invariant c.take_run-run.ensures.run c.take_run-run.ensures.items c.put_run.ensures
+    refl (c.self.invariant.are_open.open_runs c.args.worker o c.take_run-run.ensures.run).frame

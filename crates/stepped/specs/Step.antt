@@ -1,0 +1,125 @@
+-- the core as a machine: where an event may happen in a plain state, what it does, and what it answers
+use Rattle.std.specs.Prelude.{◌≡◌, ℕ, ◌+◌, ◌<◌, ◌≤◌, List, [], ◌∷◌, ◌++◌, length, slice_set, slice_index_or, Bool, true, false, Option, Some, None, option_map, is_some, nat_lt, if◌then◌else◌}
+use Rattle.outside.specs.declared.job_name.JobName.{JobName}
+use Rattle.outside.specs.declared.job_name.JobName.TheVariants as job
+use Rattle.outside.specs.declared.job_name.Pipe.{Pipe}
+use Rattle.params.specs.declared.settings.Exposure.{Exposure}
+use Rattle.edit_script.specs.Steps.{exposure_after}
+use Rattle.dev_core.specs.declared.desk.Desk.{Desk}
+use Rattle.dev_core.specs.declared.entry.Entry.{Entry}
+use Rattle.dev_core.specs.declared.entry.Entry.TheVariants as entry
+use Rattle.dev_core.specs.Desk.{start, desk_of, IsDue, IsIdle, Later}
+use Rattle.dev_core.specs.Jobs.{OfPipe}
+use Rattle.dev_core.specs.Subject.{SubjectSeen}
+use Rattle.stepped.specs.declared.event.Event.{Event}
+use Rattle.stepped.specs.declared.event.Event.TheVariants.{Editor, Take, Restart, Load, Node, Finish, Publish}
+use Rattle.stepped.specs.declared.event.Answer.{Answer}
+use Rattle.stepped.specs.declared.event.Answer.TheVariants.{Done, Moment}
+
+-- A worker's run: its job and moment, how many modules were done on the input, or none before the input is loaded, and
+-- whether the frame is made.
+pub record Run : Type 0 where
+  pub job : JobName
+  pub moment : ℕ
+  pub stage : Option ℕ
+  pub framed : Bool
+
+-- the journal, and for each worker, from number 0 on, its run where it has one
+pub record Core : Type 0 where
+  pub subject : SubjectSeen
+  pub journal : List Entry
+  pub runs : List (Option Run)
+
+abbrev pub desk_at : Core → Desk
+desk_at s = desk_of start s.journal
+
+abbrev pub run_of : Core → ℕ → Option Run
+run_of s w = slice_index_or s.runs w None
+
+-- the workers' numbers are 0 to 2
+abbrev pub IsWorker : ℕ → Type 0
+IsWorker w = w ≤ 2
+
+-- the state before the first event
+abbrev pub core_of : SubjectSeen → Core
+core_of subject = record { subject = subject; journal = []; runs = None ∷ None ∷ None ∷ [] }
+
+-- how many modules are active after the first m changes: demosaic, and exposure where a step has set it
+abbrev pub actives_at : List Exposure → ℕ → ℕ
+actives_at script m = if is_some (exposure_after script m) then 2 else 1
+
+-- there is a run, of which this holds
+abbrev pub HasRun : Option Run → (Run → Type 0) → Type 0
+HasRun None P = ⊥
+HasRun (Some r) P = P r
+
+-- a stage stands, with fewer modules done than n
+abbrev pub IsBefore : Option ℕ → ℕ → Type 0
+IsBefore None n = ⊥
+IsBefore (Some k) n = k < n
+
+-- where an event may happen
+abbrev pub IsAllowed : Core → Event → Type 0
+IsAllowed s Editor = (desk_at s).closed ≡ false
+IsAllowed s (Take w p) = IsWorker w × IsDue s.subject.script (desk_at s) p × IsIdle (desk_at s) w
+IsAllowed s (Restart w) = IsWorker w × HasRun (run_of s w) (λ r. OfPipe r.job (λ p. Later s.subject.script p r.moment (desk_at s).moment))
+IsAllowed s (Load w) = IsWorker w × HasRun (run_of s w) (λ r. r.stage ≡ None)
+IsAllowed s (Node w) = IsWorker w × HasRun (run_of s w) (λ r. IsBefore r.stage (actives_at s.subject.script r.moment) × (r.framed ≡ false))
+IsAllowed s (Finish w) = IsWorker w × HasRun (run_of s w) (λ r. (r.stage ≡ Some (actives_at s.subject.script r.moment)) × (r.framed ≡ false))
+IsAllowed s (Publish w) = IsWorker w × HasRun (run_of s w) (λ r. OfPipe r.job (λ p. r.framed ≡ true))
+
+abbrev pub with_entries : Core → List Entry → Core
+with_entries s es = record s { journal = s.journal ++ es }
+
+abbrev pub with_run : Core → ℕ → Option Run → Core
+with_run s w r = record s { runs = slice_set s.runs w r }
+
+-- a run that has only begun
+abbrev pub fresh : JobName → ℕ → Run
+fresh name m = record { job = name; moment = m; stage = None; framed = false }
+
+abbrev pub loaded : Run → Run
+loaded r = record r { stage = Some 0 }
+
+abbrev pub processed : Run → Run
+processed r = record r { stage = option_map (λ k. k + 1) r.stage }
+
+abbrev pub finished : Run → Run
+finished r = record r { framed = true }
+
+-- what is done for a pipe's job
+abbrev pub for_pipe : JobName → (Pipe → Entry) → List Entry
+for_pipe (job.Pipe p) f = f p ∷ []
+for_pipe (job.Ticket t) f = []
+
+abbrev pub restarted : ℕ → ℕ → Option Run → List Entry
+restarted w m None = []
+restarted w m (Some r) = for_pipe r.job (λ p. entry.Restarted p w m)
+
+abbrev pub published : ℕ → Option Run → List Entry
+published w None = []
+published w (Some r) = for_pipe r.job (λ p. entry.Published p w r.moment)
+
+-- a step of the script is left
+abbrev pub has_step : Core → Bool
+has_step s = nat_lt (desk_at s).steps (length s.subject.script)
+
+-- the state after an event
+abbrev pub after : Core → Event → Core
+after s Editor = with_entries s ((if has_step s then entry.Changed ((desk_at s).moment + 1) else entry.Closed) ∷ [])
+after s (Take w p) = with_run (with_entries s (entry.Took p w (desk_at s).moment ∷ [])) w (Some (fresh (job.Pipe p) (desk_at s).moment))
+after s (Restart w) = with_run (with_entries s (restarted w (desk_at s).moment (run_of s w))) w (option_map (λ r. fresh r.job (desk_at s).moment) (run_of s w))
+after s (Load w) = with_run s w (option_map loaded (run_of s w))
+after s (Node w) = with_run s w (option_map processed (run_of s w))
+after s (Finish w) = with_run s w (option_map finished (run_of s w))
+after s (Publish w) = with_run (with_entries s (published w (run_of s w))) w None
+
+-- what an event answers
+abbrev pub answer_to : Core → Event → Answer
+answer_to s Editor = if has_step s then Moment ((desk_at s).moment + 1) else Done
+answer_to s (Take w p) = Done
+answer_to s (Restart w) = Done
+answer_to s (Load w) = Done
+answer_to s (Node w) = Done
+answer_to s (Finish w) = Done
+answer_to s (Publish w) = Done

@@ -1,0 +1,16 @@
+//! The core driven by events: a pure machine that makes one step after another, without threads.
+//!
+//! An event is one thing that the editor or a worker does. `step_one` makes one event, where it may
+//! happen, and `stepped` makes a list of them. What each does to a plain state is a definition of its
+//! own, and an outcome is seen as that state.
+#![tactic(auto)]
+
+mod event;
+mod machine;
+mod open_run;
+mod outcome;
+#[cfg(test)]
+mod tests;
+
+pub use event::{Answer, Event, StepEnd};
+pub use outcome::{Outcome, step_one, stepped};
