@@ -1,3 +1,5 @@
 pub mod Step
 pub mod Outcome
 pub mod Machine
+pub mod Reads
+pub mod Read

@@ -6,11 +6,15 @@
 #![tactic(auto)]
 
 mod event;
+mod fault;
 mod machine;
 mod open_run;
 mod outcome;
+mod reading;
 #[cfg(test)]
 mod tests;
 
 pub use event::{Answer, Event, StepEnd};
+pub use fault::{EventReason, EventsEnd, EventsFault};
 pub use outcome::{Outcome, step_one, stepped};
+pub use reading::read_events;

@@ -1,4 +1,7 @@
-use crate::{Answer, Event, Outcome, StepEnd, step_one, stepped};
+use crate::{
+    Answer, Event, EventReason, EventsEnd, EventsFault, Outcome, StepEnd, read_events, step_one,
+    stepped,
+};
 use dev_core::{Source, Subject};
 use outside::Pipe;
 use std::alloc::{AllocError, Global};
@@ -190,5 +193,44 @@ fn one_event_that_may_not_happen_leaves_the_outcome(rt: HostRuntime) -> Result<(
     assert!(rt; step_one(&rt, alloc, &NODE, &mut outcome).is_err());
     assert_eq!(rt; outcome.answers(), [Answer::Done].as_slice());
     assert_eq!(rt; outcome.desk().journal().len(), 1);
+    Ok(())
+}
+
+#[test]
+fn the_words_of_events_are_read(rt: HostRuntime) -> Result<(), Fail> {
+    let text =
+        "[[\"editor\"],[\"take\",1,\"full\"],[\"restart\",1],[\"load\",1],[\"node\",1],[\"finish\",1],[\"publish\",1]]";
+    let events = read_events(rt.alloc(), text.as_bytes())?;
+    let read = [Event::Editor, TAKE, RESTART, LOAD, NODE, FINISH, PUBLISH];
+    assert_eq!(rt; events.as_slice(), read.as_slice());
+    Ok(())
+}
+
+#[test]
+fn what_is_no_list_of_events_is_a_fault_of_form(rt: HostRuntime) -> Result<(), Fail> {
+    let refused = [
+        "",
+        "{}",
+        "[\"editor\"]",
+        "[[]]",
+        "[[\"editor\",1]]",
+        "[[\"load\"]]",
+        "[[\"load\",5]]",
+        "[[\"load\",1.0]]",
+        "[[\"editor\"],[\"take\",1,\"preview\"]]",
+        "[[\"take\",1,\"full\",1]]",
+    ];
+    for text in refused {
+        let Err(EventsEnd::Fault(fault)) = read_events(rt.alloc(), text.as_bytes()) else {
+            return Err(Fail::from(text));
+        };
+        assert_eq!(rt;
+            fault,
+            EventsFault {
+                place: 0,
+                reason: EventReason::Form
+            }
+        );
+    }
     Ok(())
 }

@@ -1,0 +1,79 @@
+-- the events that are read so far, in front of what the rest gives; the parts of an event
+use Rattle.std.proofs.Common.{◌≡◌, ℕ, ◌<◌, List, [], ◌∷◌, ◌++◌, length, suc, take, Option, Some, None, get_or, refl, sym, ap, ◌∙◌, append_assoc, arith}
+use Rattle.std.specs.Prelude.{option_map, option_and_then, nat_le, false, ◌≤◌}
+use Rattle.std.proofs.lemmas.Bool.{cases_lt}
+use Rattle.std.proofs.lemmas.Bool.Decides.{nat_tests}
+use Rattle.std.proofs.lemmas.List.{length-take}
+use Rattle.std.proofs.Common.{⊎_elim, take_all}
+use Rattle.serde_json.specs.View.{view, items_view}
+use Rattle.serde_json.specs.declared.value.Value.{Value}
+use Rattle.serde_json.specs.Data.{Data, Items, item}
+use Rattle.stepped.specs.declared.event.Event.{Event}
+use Rattle.stepped.specs.Reads.{event_of, event_of_one, event_of_two, event_of_three, events_in, event_of_parts, count_of, events_of}
+
+abbrev pub with_front : List Event → Option (List Event) → Option (List Event)
+with_front front read = option_map (λ es. front ++ es) read
+
+pub with_none : (read : Option (List Event)) → with_front [] read ≡ read
+with_none None = refl
+with_none (Some es) = refl
+
+moved : (front : List Event) (e : Event) (read : Option (List Event))
+    → with_front front (option_and_then (λ es. Some (e ∷ es)) read) ≡ with_front (front ++ e ∷ []) read
+moved front e None = refl
+moved front e (Some es) = ap Some (sym (append_assoc front (e ∷ []) es))
+
+-- one more event moves to the front
+pub with_one : (front : List Event) (d : Data) (e : Event) (rest : Items) → event_of d ≡ Some e
+    → with_front front (events_in (item d rest)) ≡ with_front (front ++ e ∷ []) (events_in rest)
+with_one front d e rest one = rw one (moved front e (events_in rest))
+
+-- an event that hasn't the form
+pub with_refused : (front : List Event) (d : Data) (rest : Items) → event_of d ≡ None → with_front front (events_in (item d rest)) ≡ None
+with_refused front d rest none = rw none refl
+
+pub count_of_items : (values : List Value) → count_of (items_view values) ≡ length values
+count_of_items [] = refl
+count_of_items (v ∷ vs) = ap suc (count_of_items vs)
+
+-- the front of a text, with one byte above the limit, tells what the whole does
+pub events_of_front : (text bytes : List ℕ) → take 4194305 text ≡ bytes → events_of text ≡ events_of bytes
+events_of_front text bytes front = ⊎_elim
+    (λ (longer : 4194304 < length text).
+    let len : length bytes ≡ 4194305 = ap length (sym front) ∙ rw (length-take 4194305 text) (omega arith) in
+    let whole : nat_le (length text) 4194304 ≡ false = grind (arith, nat_tests) in
+    let cut : nat_le (length bytes) 4194304 ≡ false = grind (arith, nat_tests) in
+    rw (whole, cut) refl)
+    (λ (within : length text ≤ 4194304). ap events_of (sym (take_all 4194305 text (omega arith)) ∙ front))
+    (cases_lt 4194304 (length text))
+
+-- ---- parts of an event
+
+pub one_part : (vs : List Value) (d : Value) → length vs ≡ 1 → event_of_parts (items_view vs) ≡ event_of_one (view (get_or vs 0 d))
+unfolding event_of_parts
+one_part [] d h = absurd (omega arith)
+one_part (a ∷ []) d h = refl
+one_part (a ∷ b ∷ more) d h = absurd (omega arith)
+
+pub two_parts : (vs : List Value) (a b : Value) → length vs ≡ 2 → a ≡ get_or vs 0 a → b ≡ get_or vs 1 b → event_of_parts (items_view vs) ≡ event_of_two (view a) (view b)
+unfolding event_of_parts
+two_parts [] a b h p q = absurd (omega arith)
+two_parts (x ∷ []) a b h p q = absurd (omega arith)
+two_parts (x ∷ y ∷ []) a b h p q = rw (p, q) refl
+two_parts (x ∷ y ∷ z ∷ more) a b h p q = absurd (omega arith)
+
+pub three_parts : (vs : List Value) (a b c : Value) → length vs ≡ 3 → a ≡ get_or vs 0 a → b ≡ get_or vs 1 b → c ≡ get_or vs 2 c → event_of_parts (items_view vs) ≡ event_of_three (view a) (view b) (view c)
+unfolding event_of_parts
+three_parts [] a b c h p q r = absurd (omega arith)
+three_parts (x ∷ []) a b c h p q r = absurd (omega arith)
+three_parts (x ∷ y ∷ []) a b c h p q r = absurd (omega arith)
+three_parts (x ∷ y ∷ z ∷ []) a b c h p q r = rw (p, q, r) refl
+three_parts (x ∷ y ∷ z ∷ w ∷ more) a b c h p q r = absurd (omega arith)
+
+pub other_parts : (vs : List Value) → (length vs ≡ 1 → ⊥) → (length vs ≡ 2 → ⊥) → (length vs ≡ 3 → ⊥) → event_of_parts (items_view vs) ≡ None
+unfolding event_of_parts
+other_parts [] h k l = refl
+other_parts (a ∷ []) h k l = absurd (h refl)
+other_parts (a ∷ b ∷ []) h k l = absurd (k refl)
+other_parts (a ∷ b ∷ c ∷ []) h k l = absurd (l refl)
+other_parts (a ∷ b ∷ c ∷ e ∷ more) h k l = refl
