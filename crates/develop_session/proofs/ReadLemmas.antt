@@ -1,5 +1,5 @@
 -- what the front of a file tells of the file
-use Rattle.std.proofs.Common.{◌≡◌, ℕ, List, ◌∷◌, length, take, Option, Some, None, Result, Ok, Err, refl, sym, ap, ◌∙◌, subst, ◌≤◌, arith}
+use Rattle.std.proofs.Common.{◌≡◌, ℕ, List, take, Option, Some, None, refl, sym, subst, ◌≤◌}
 use Rattle.std.specs.Prelude.{option_map}
 use Rattle.px.specs.Picture.{Picture}
 use Rattle.params.specs.declared.settings.Exposure.{Exposure}
@@ -7,7 +7,9 @@ use Rattle.outside.specs.Shelf.{Files, held}
 use Rattle.pnm.specs.Pnm.{IsPicture}
 use Rattle.pnm.proofs.FrontLemmas.{picture_of_front, picture_in_front}
 use Rattle.edit_script.specs.Reads.{script_of}
-use Rattle.develop_session.specs.Develop.{HasScript, HasNoScript, HasSource, HasNoSource}
+use Rattle.stepped.specs.declared.event.Event.{Event}
+use Rattle.stepped.specs.Reads.{events_of}
+use Rattle.develop_session.specs.Files.{HasScript, HasNoScript, HasSource, HasNoSource, HasEvents, HasNoEvents}
 
 -- a file whose front was read stands there
 pub record HasFront (name : List ℕ) (fs : Files) (n : ℕ) (front : List ℕ) : Type 0 where
@@ -30,6 +32,16 @@ has_script name fs front steps tells e = let file = front_read name fs 4194305 f
 pub has_no_script : (name : List ℕ) (fs : Files) (front : List ℕ) → ((text : List ℕ) → take 4194305 text ≡ front → script_of text ≡ None)
     → option_map (take 4194305) (held fs name) ≡ Some front → HasNoScript name fs
 has_no_script name fs front tells e = let file = front_read name fs 4194305 front e in
+    record { bytes = file.bytes; stands = file.stands; reads = tells file.bytes file.front_is }
+
+pub has_events : (name : List ℕ) (fs : Files) (front : List ℕ) (events : List Event) → ((text : List ℕ) → take 4194305 text ≡ front → events_of text ≡ Some events)
+    → option_map (take 4194305) (held fs name) ≡ Some front → HasEvents name fs events
+has_events name fs front events tells e = let file = front_read name fs 4194305 front e in
+    record { bytes = file.bytes; stands = file.stands; reads = tells file.bytes file.front_is }
+
+pub has_no_events : (name : List ℕ) (fs : Files) (front : List ℕ) → ((text : List ℕ) → take 4194305 text ≡ front → events_of text ≡ None)
+    → option_map (take 4194305) (held fs name) ≡ Some front → HasNoEvents name fs
+has_no_events name fs front tells e = let file = front_read name fs 4194305 front e in
     record { bytes = file.bytes; stands = file.stands; reads = tells file.bytes file.front_is }
 
 source_front : (name : List ℕ) (fs : Files) (n : ℕ) (front : List ℕ) (q : Picture) → IsPicture front q → HasFront name fs n front → HasSource name fs q

@@ -1,5 +1,9 @@
 pub mod Words
 pub mod Texts
+pub mod Files
 pub mod Develop
+pub mod Replay
+pub mod Failures
 pub mod Answers
+pub mod Replies
 pub mod Names

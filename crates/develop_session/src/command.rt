@@ -1,6 +1,6 @@
 ghost use Rattle.std.specs.Prelude.{◌≡◌, option_map};
-ghost use Rattle.develop_session.specs.Words.{command_of, texts};
-ghost use Rattle.develop_session.specs.Names.{command};
+ghost use Rattle.develop_session.specs.Words.{command_of, replay_of, texts};
+ghost use Rattle.develop_session.specs.Names.{command, replay};
 
 // The names of a `develop` command.
 #[derive(Clone, Copy)]
@@ -10,7 +10,7 @@ pub(crate) struct Names<'a> {
     pub(crate) out: &'a str,
 }
 
-// The command that the words are, if they are one.
+// The `develop` that the words are, if they are one.
 pub(crate) fn names_of(words: &[String]) -> Option<Names<'_>>
     ensures { option_map command result ≡ command_of (texts words.now) }
 {
@@ -24,5 +24,30 @@ pub(crate) fn names_of(words: &[String]) -> Option<Names<'_>>
         script: script.as_str(),
         source: source.as_str(),
         out: out.as_str(),
+    })
+}
+
+// The names of a `stepped` command.
+#[derive(Clone, Copy)]
+pub(crate) struct ReplayNames<'a> {
+    pub(crate) script: &'a str,
+    pub(crate) source: &'a str,
+    pub(crate) events: &'a str,
+}
+
+// The replay that the words are, if they are one.
+pub(crate) fn replay_names_of(words: &[String]) -> Option<ReplayNames<'_>>
+    ensures { option_map replay result ≡ replay_of (texts words.now) }
+{
+    let [word, script, source, events] = words else {
+        return None;
+    };
+    if word.as_str() != "stepped" {
+        return None;
+    }
+    Some(ReplayNames {
+        script: script.as_str(),
+        source: source.as_str(),
+        events: events.as_str(),
     })
 }

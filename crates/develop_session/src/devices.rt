@@ -4,11 +4,12 @@ ghost use Rattle.std.specs.Option.{option_map};
 ghost use Rattle.outside.specs.Faults.{Rose, NoneFalls};
 ghost use Rattle.outside.specs.Shelf.{held, Puts, PutsInPart};
 ghost use Rattle.outside.specs.Said.{Says, SaysInPart};
-ghost use Rattle.develop_session.specs.Answers.{FailsAt, PutFailsAt, Tells};
+ghost use Rattle.develop_session.specs.Failures.{FailsAt, PutFailsAt, SaysLine, Tells};
 ghost use Rattle.develop_session.specs.Texts.{refusal_text};
 
 use crate::status::{Status, refusal_line};
 use outside::{Failed, Name, Said, Shelf, read_front};
+use publish::PutEnd;
 use std::alloc::Global;
 
 // What a failed call of the shelf at this name answers.
@@ -44,7 +45,7 @@ pub(crate) fn read_file<S: Shelf>(
     }
 }
 
-// Puts the bytes of a file. The name of a fault is made first, so that want of memory changes nothing.
+// Puts the bytes of a file.
 pub(crate) fn put_file<S: Shelf>(
     alloc: Global,
     shelf: &mut S,
@@ -56,13 +57,10 @@ pub(crate) fn put_file<S: Shelf>(
     ensures reads { NoneFalls (S.read_faults shelf.old) (S.read_faults shelf.new) }
     ensures puts { NoneFalls (S.put_faults shelf.old) (S.put_faults shelf.new) }
 {
-    let Ok(at) = Name::of(alloc, name) else {
-        return Err(Status::OutOfMemory);
-    };
-    match shelf.put(name, bytes) {
+    match publish::put_file(alloc, shelf, name, bytes) {
         Ok(()) => Ok(()),
-        Err(Failed::Fault) => Err(Status::ShelfFault { name: at }),
-        Err(Failed::Memory) => Err(Status::OutOfMemory),
+        Err(PutEnd::Fault { name }) => Err(Status::ShelfFault { name }),
+        Err(PutEnd::Memory) => Err(Status::OutOfMemory),
     }
 }
 
@@ -73,5 +71,16 @@ pub(crate) fn tell<O: Said>(alloc: Global, said: &mut O, status: &Status)
 {
     if let Ok(line) = refusal_line(alloc, status) {
         let _ = said.say(line.as_bytes());
+    }
+}
+
+// Says the line of a command that did its work.
+pub(crate) fn say_line<O: Said>(said: &mut O, line: &str) -> Status
+    ensures { SaysLine line.now (Rose (O.faults said.old) (O.faults said.new)) (O.said said.old) (O.said said.new) result }
+{
+    match said.say(line.as_bytes()) {
+        Ok(()) => Status::Ok,
+        Err(Failed::Fault) => Status::SaidFault,
+        Err(Failed::Memory) => Status::OutOfMemory,
     }
 }

@@ -4,11 +4,17 @@
 mod command;
 mod develop;
 mod devices;
+mod inputs;
+mod replay;
+#[cfg(test)]
+mod replay_tests;
 mod status;
+mod tally;
 #[cfg(test)]
 mod tests;
 mod words;
 
 pub use develop::develop_once;
+pub use replay::run_stepped;
 pub use status::{Input, Status};
 pub use words::run_words;

@@ -2,13 +2,16 @@ ghost use Rattle.std.specs.Prelude.{◌≡◌, IfOk, string_bytes};
 ghost use Rattle.develop_session.specs.Texts.{code_of, refusal_text};
 
 use outside::Name;
+use publish::PutEnd;
 use std::alloc::{AllocError, Global};
+use stepped::EventReason;
 
 /// An input file of a command.
 #[derive(Clone, Copy, Debug, PartialEq, Eq)]
 pub enum Input {
     Script,
     Source,
+    Events,
 }
 
 /// How a command ended.
@@ -17,6 +20,8 @@ pub enum Status {
     Ok,
     /// The words are no command.
     Usage,
+    /// The event in this place, counted from 1, is refused.
+    EventsRefused { place: u32, reason: EventReason },
     /// A fault of the shelf at this name.
     ShelfFault { name: Name },
     /// A fault of the output, on a run that else was `Ok`.
@@ -36,6 +41,19 @@ impl From<AllocError> for Status {
     }
 }
 
+impl From<PutEnd> for Status {
+    ghost use Rattle.develop_session.specs.Failures.{put_status};
+
+    ghost from_gives = { λ end status. status ≡ put_status end };
+
+    fn from(end: PutEnd) -> Status {
+        match end {
+            PutEnd::Fault { name } => Status::ShelfFault { name },
+            PutEnd::Memory => Status::OutOfMemory,
+        }
+    }
+}
+
 impl Status {
     /// The number with which the program exits.
     pub fn code(&self) -> u8
@@ -44,6 +62,7 @@ impl Status {
         match self {
             Status::Ok => 0,
             Status::Usage => 1,
+            Status::EventsRefused { .. } => 4,
             Status::ShelfFault { .. } => 5,
             Status::SaidFault => 6,
             Status::OutOfMemory => 7,
@@ -61,6 +80,9 @@ pub(crate) fn refusal_line(alloc: Global, status: &Status) -> Result<String, All
             alloc,
             "usage: devcore develop SCRIPT SOURCE OUT, stepped SCRIPT SOURCE EVENTS, session SCRIPT SOURCE, generate N\n",
         ),
+        Status::EventsRefused { place, reason } => {
+            format!(in alloc; "events refused at event {place}: {reason}\n")
+        }
         Status::ShelfFault { name } => format!(in alloc; "shelf fault: {name}\n"),
         Status::OutOfMemory => String::from_str(alloc, "out of memory\n"),
         Status::NotYet {
@@ -69,6 +91,9 @@ pub(crate) fn refusal_line(alloc: Global, status: &Status) -> Result<String, All
         Status::NotYet {
             what: Input::Source,
         } => String::from_str(alloc, "not yet: source\n"),
+        Status::NotYet {
+            what: Input::Events,
+        } => String::from_str(alloc, "not yet: events\n"),
         Status::Ok | Status::SaidFault => String::from_str(alloc, ""),
     }
 }

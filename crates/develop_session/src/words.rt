@@ -3,13 +3,17 @@ ghost use Rattle.params.specs.declared.settings.Exposure.{Exposure};
 ghost use Rattle.px.specs.Picture.{Picture};
 ghost use Rattle.outside.specs.Faults.{Rose};
 ghost use Rattle.develop_session.specs.declared.status.Status.TheVariants.{Usage as usage_status};
-ghost use Rattle.develop_session.specs.Words.{command_of, texts};
+ghost use Rattle.publish.specs.Files.{RoseAt};
+ghost use Rattle.develop_session.specs.Words.{command_of, replay_of, texts};
 ghost use Rattle.develop_session.specs.Texts.{refusal_text};
-ghost use Rattle.develop_session.specs.Answers.{Answers, RoseAt, Tells};
+ghost use Rattle.develop_session.specs.Failures.{Tells};
+ghost use Rattle.develop_session.specs.Answers.{Answers};
+ghost use Rattle.develop_session.specs.Replies.{Replies};
 
-use crate::command::names_of;
+use crate::command::{Names, ReplayNames, names_of, replay_names_of};
 use crate::develop::develop_once;
 use crate::devices::tell;
+use crate::replay::run_stepped;
 use crate::status::Status;
 use outside::{Said, Shelf};
 use std::alloc::Global;
@@ -18,8 +22,10 @@ use std::thread::Threads;
 /// Runs the command that the words after the program's name are, over a shelf of files and an output.
 ///
 /// `develop SCRIPT SOURCE OUT` develops the picture SOURCE by the last exposure that SCRIPT sets, puts
-/// it at OUT and says `developed W H`. Other words are answered by the usage line. Every refusal says
-/// its line, and nothing is put before the run has ended.
+/// it at OUT and says `developed W H`. `stepped SCRIPT SOURCE EVENTS` replays the events, puts the files
+/// of the journal that they make, and says `events E lines L` with `complete` or `open`. Other words are
+/// answered by the usage line. A refusal says its line where the output takes it, and nothing is put
+/// before the run has ended.
 pub fn run_words<R: Threads + Sync, S: Shelf, O: Said>(
     rt: &R,
     alloc: Global,
@@ -27,27 +33,33 @@ pub fn run_words<R: Threads + Sync, S: Shelf, O: Said>(
     shelf: &mut S,
     said: &mut O,
 ) -> Status
-    ensures usage { (result ≡ usage_status) ↔ (command_of (texts words.now) ≡ None) }
+    ensures usage { (result ≡ usage_status) ↔ ((command_of (texts words.now) ≡ None) × (replay_of (texts words.now) ≡ None)) }
     ensures untouched { result ≡ usage_status → S.files shelf.new ≡ S.files shelf.old }
     ensures usage_told { result ≡ usage_status → Tells (refusal_text usage_status) (Rose (O.faults said.old) (O.faults said.new)) (O.said said.old) (O.said said.new) }
-    ensures answer { IfSome (command_of (texts words.now)) (λ c.
+    ensures develop { IfSome (command_of (texts words.now)) (λ c.
         Answers c (S.files shelf.old) (S.files shelf.new) (RoseAt (S.read_faults shelf.old) (S.read_faults shelf.new)) (RoseAt (S.put_faults shelf.old) (S.put_faults shelf.new))
         (Rose (O.faults said.old) (O.faults said.new)) (O.said said.old) (O.said said.new) result) }
+    ensures stepped { IfSome (replay_of (texts words.now)) (λ c.
+        Replies c (S.files shelf.old) (S.files shelf.new) (RoseAt (S.read_faults shelf.old) (S.read_faults shelf.new)) (RoseAt (S.put_faults shelf.old) (S.put_faults shelf.new))
+        (Rose (O.faults said.old) (O.faults said.new)) (O.said said.old) (O.said said.new) result) }
 {
-    match names_of(words) {
-        None => {
-            let status = Status::Usage;
-            tell(alloc, said, &status);
-            status
-        }
-        Some(names) => develop_once(
-            rt,
-            alloc,
-            names.script,
-            names.source,
-            names.out,
-            shelf,
-            said,
-        ),
+    if let Some(names) = names_of(words) {
+        let Names {
+            script,
+            source,
+            out,
+        } = names;
+        return develop_once(rt, alloc, script, source, out, shelf, said);
     }
+    if let Some(names) = replay_names_of(words) {
+        let ReplayNames {
+            script,
+            source,
+            events,
+        } = names;
+        return run_stepped(rt, alloc, script, source, events, shelf, said);
+    }
+    let status = Status::Usage;
+    tell(alloc, said, &status);
+    status
 }

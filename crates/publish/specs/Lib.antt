@@ -1,2 +1,4 @@
 pub mod Names
+pub mod Count
 pub mod Manifest
+pub mod Files

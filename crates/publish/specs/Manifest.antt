@@ -1,39 +1,30 @@
 -- the text of the manifest
-use Rattle.std.specs.Prelude.{ℕ, Bool, true, false, List, [], ◌∷◌, ◌++◌, codes, count_by}
+use Rattle.std.specs.Prelude.{ℕ, List, [], ◌∷◌, ◌++◌, length, codes}
 use Rattle.std.specs.Fmt.{decimal}
+use Rattle.outside.specs.declared.job_name.JobName.{JobName}
+use Rattle.outside.specs.declared.job_name.JobName.TheVariants as job
 use Rattle.outside.specs.declared.job_name.Pipe.{Pipe}
-use Rattle.dev_core.specs.declared.entry.Entry.{Entry}
-use Rattle.dev_core.specs.declared.entry.Entry.TheVariants.{Changed, Closed, Took, Restarted, Published, GaveBack}
-use Rattle.publish.specs.Names.{pipe_word, pipe_file}
+use Rattle.dev_core.specs.Lines.{Line}
+use Rattle.publish.specs.Names.{pipe_word, pipe_file, ticket_file}
 
 abbrev pub pipe_line : Pipe → ℕ → List ℕ
 pipe_line p m = pipe_word p ++ (codes " " ++ (decimal m ++ (codes " " ++ (pipe_file p m ++ codes "\n"))))
 
--- the line of an entry, or nothing
-abbrev pub line_text : Entry → List ℕ
-line_text (Changed m) = []
-line_text Closed = []
-line_text (Took p w m) = []
-line_text (Restarted p w m) = []
-line_text (Published p w m) = pipe_line p m
-line_text (GaveBack p w) = []
+abbrev pub ticket_line : ℕ → ℕ → List ℕ
+ticket_line t m = codes "ticket " ++ (decimal t ++ (codes " " ++ (decimal m ++ (codes " " ++ (ticket_file t ++ codes "\n")))))
 
--- whether the entry has a line
-abbrev pub has_line : Entry → Bool
-has_line (Changed m) = false
-has_line Closed = false
-has_line (Took p w m) = false
-has_line (Restarted p w m) = false
-has_line (Published p w m) = true
-has_line (GaveBack p w) = false
+-- what was made, its moment and its file
+abbrev pub job_line : JobName → ℕ → List ℕ
+job_line (job.Pipe p) m = pipe_line p m
+job_line (job.Ticket t) m = ticket_line t m
 
-abbrev pub lines_text : List Entry → List ℕ
+abbrev pub lines_text : List Line → List ℕ
 lines_text [] = []
-lines_text (e ∷ es) = line_text e ++ lines_text es
+lines_text (l ∷ ls) = job_line l.job l.moment ++ lines_text ls
 
 -- the last line, with how many there are before it
-abbrev pub end_line : List Entry → List ℕ
-end_line es = codes "end " ++ (decimal (count_by has_line es) ++ codes "\n")
+abbrev pub end_line : ℕ → List ℕ
+end_line count = codes "end " ++ (decimal count ++ codes "\n")
 
-abbrev pub manifest_of : List Entry → List ℕ
-manifest_of es = lines_text es ++ end_line es
+abbrev pub manifest_of : List Line → List ℕ
+manifest_of ls = lines_text ls ++ end_line (length ls)

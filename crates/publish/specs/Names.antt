@@ -1,6 +1,8 @@
 -- the names of the files that a session puts
 use Rattle.std.specs.Prelude.{ℕ, List, ◌++◌, codes, Option, Some, None}
 use Rattle.std.specs.Fmt.{decimal}
+use Rattle.outside.specs.declared.job_name.JobName.{JobName}
+use Rattle.outside.specs.declared.job_name.JobName.TheVariants as job
 use Rattle.outside.specs.declared.job_name.Pipe.{Pipe}
 use Rattle.outside.specs.declared.job_name.Pipe.TheVariants.{Full, Preview}
 use Rattle.dev_core.specs.declared.entry.Entry.{Entry}
@@ -13,6 +15,18 @@ pipe_word Preview = codes "preview"
 -- the file of a pipe's picture at a moment
 abbrev pub pipe_file : Pipe → ℕ → List ℕ
 pipe_file p m = pipe_word p ++ (codes "-" ++ (decimal m ++ codes ".ppm"))
+
+-- the file of a ticket's picture
+abbrev pub ticket_file : ℕ → List ℕ
+ticket_file t = codes "ticket-" ++ (decimal t ++ codes ".ppm")
+
+-- the file of a job's picture at a moment
+abbrev pub job_file : JobName → ℕ → List ℕ
+job_file (job.Pipe p) m = pipe_file p m
+job_file (job.Ticket t) m = ticket_file t
+
+abbrev pub manifest_file : List ℕ
+manifest_file = codes "manifest.txt"
 
 -- the file of an entry: just a published job has one
 abbrev pub name_of : Entry → Option (List ℕ)

@@ -1,10 +1,14 @@
-//! What a session puts of its journal: the names of its files, and the manifest.
+//! What a session puts of its journal: a file for each job that was done, and the manifest.
 #![tactic(auto)]
 
 mod listing;
 mod names;
+mod put_end;
+mod putting;
 #[cfg(test)]
 mod tests;
 
 pub use listing::manifest;
 pub use names::file_name;
+pub use put_end::PutEnd;
+pub use putting::{put_file, write_all};

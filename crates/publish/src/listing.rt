@@ -1,9 +1,12 @@
 //! The manifest: a line for each file, and their count.
-ghost use Rattle.std.specs.Prelude.{◌≡◌, ◌++◌, IfOk, OnOk, string_bytes, count_by};
-ghost use Rattle.publish.specs.Manifest.{pipe_line, line_text, has_line, lines_text, end_line, manifest_of};
+ghost use Rattle.std.specs.Prelude.{◌≡◌, ◌++◌, length, IfOk, OnOk, string_bytes, count_by};
+ghost use Rattle.dev_core.specs.Lines.{line_of, lines};
+ghost use Rattle.publish.specs.Count.{has_line};
+ghost use Rattle.publish.specs.Manifest.{pipe_line, lines_text, end_line, manifest_of};
 
 use crate::names::{pipe_file, pipe_word};
 use dev_core::Entry;
+use edit_script::Script;
 use outside::Pipe;
 use std::alloc::{AllocError, Global};
 
@@ -16,8 +19,13 @@ fn pipe_line(alloc: Global, pipe: Pipe, moment: u32) -> Result<String, AllocErro
 }
 
 // Adds the entry's line, where it has one.
-fn add_line(alloc: Global, text: &mut String, entry: &Entry) -> Result<(), AllocError>
-    ensures { OnOk result (string_bytes text.new ≡ string_bytes text.old ++ line_text entry.now) }
+fn add_line(
+    alloc: Global,
+    text: &mut String,
+    entry: &Entry,
+    script: &Script,
+) -> Result<(), AllocError>
+    ensures { OnOk result (string_bytes text.new ≡ string_bytes text.old ++ lines_text (line_of script.now entry.now)) }
 {
     if let Entry::Published {
         pipe,
@@ -31,6 +39,16 @@ fn add_line(alloc: Global, text: &mut String, entry: &Entry) -> Result<(), Alloc
     Ok(())
 }
 
+fn lines_text(alloc: Global, journal: &[Entry], script: &Script) -> Result<String, AllocError>
+    ensures { IfOk result (λ t. string_bytes t ≡ lines_text (lines script.now journal.now)) }
+{
+    let mut text = String::new(alloc);
+    for entry in journal {
+        add_line(alloc, &mut text, entry, script)?;
+    }
+    Ok(text)
+}
+
 fn has_line(entry: &Entry) -> bool
     ensures { result ≡ has_line entry.now }
 {
@@ -40,16 +58,6 @@ fn has_line(entry: &Entry) -> bool
     }
 }
 
-fn lines_text(alloc: Global, journal: &[Entry]) -> Result<String, AllocError>
-    ensures { IfOk result (λ t. string_bytes t ≡ lines_text journal.now) }
-{
-    let mut text = String::new(alloc);
-    for entry in journal {
-        add_line(alloc, &mut text, entry)?;
-    }
-    Ok(text)
-}
-
 fn count_lines(journal: &[Entry]) -> usize
     ensures { result ≡ count_by has_line journal.now }
 {
@@ -57,7 +65,7 @@ fn count_lines(journal: &[Entry]) -> usize
 }
 
 fn end_line(alloc: Global, journal: &[Entry]) -> Result<String, AllocError>
-    ensures { IfOk result (λ t. string_bytes t ≡ end_line journal.now) }
+    ensures { IfOk result (λ t. string_bytes t ≡ end_line (count_by has_line journal.now)) }
 {
     let count = count_lines(journal);
     format!(in alloc; "end {count}\n")
@@ -65,10 +73,11 @@ fn end_line(alloc: Global, journal: &[Entry]) -> Result<String, AllocError>
 
 /// The bytes of the manifest: for each published job of the journal, in order, its pipe, moment and file,
 /// and last `end` with the number of lines.
-pub fn manifest(alloc: Global, journal: &[Entry]) -> Result<Vec<u8>, AllocError>
-    ensures { IfOk result (λ b. b.items ≡ manifest_of journal.now) }
+#[tactic(auto, using(crate::proofs::LineLemmas::count_is_length))]
+pub fn manifest(alloc: Global, journal: &[Entry], script: &Script) -> Result<Vec<u8>, AllocError>
+    ensures { IfOk result (λ b. b.items ≡ manifest_of (lines script.now journal.now)) }
 {
-    let mut text = lines_text(alloc, journal)?;
+    let mut text = lines_text(alloc, journal, script)?;
     let end = end_line(alloc, journal)?;
     text.push_str(end.as_str())?;
     Ok(text.into_bytes())

@@ -1,10 +1,13 @@
 //! The names of the files that a session puts.
 ghost use Rattle.std.specs.Prelude.{◌≡◌, IfOk, option_map, string_bytes};
-ghost use Rattle.publish.specs.Names.{pipe_word, pipe_file, name_of};
+ghost use Rattle.publish.specs.Names.{pipe_word, pipe_file, ticket_file, job_file, name_of};
 
 use dev_core::Entry;
-use outside::Pipe;
+use outside::{JobName, Pipe};
 use std::alloc::{AllocError, Global};
+
+/// The name of the manifest's file.
+pub(crate) const MANIFEST: &str = "manifest.txt";
 
 pub(crate) fn pipe_word(pipe: Pipe) -> &'static str
     ensures { result.now ≡ pipe_word pipe }
@@ -20,6 +23,21 @@ pub(crate) fn pipe_file(alloc: Global, pipe: Pipe, moment: u32) -> Result<String
 {
     let word = pipe_word(pipe);
     format!(in alloc; "{word}-{moment}.ppm")
+}
+
+fn ticket_file(alloc: Global, ticket: u32) -> Result<String, AllocError>
+    ensures { IfOk result (λ t. string_bytes t ≡ ticket_file ticket) }
+{
+    format!(in alloc; "ticket-{ticket}.ppm")
+}
+
+pub(crate) fn job_file(alloc: Global, job: JobName, moment: u32) -> Result<String, AllocError>
+    ensures { IfOk result (λ t. string_bytes t ≡ job_file job moment) }
+{
+    match job {
+        JobName::Pipe(pipe) => pipe_file(alloc, pipe, moment),
+        JobName::Ticket(ticket) => ticket_file(alloc, ticket),
+    }
 }
 
 /// The name of the entry's file: `None` exactly where the entry is no published job.

@@ -1,7 +1,14 @@
 use crate::{file_name, manifest};
 use dev_core::Entry;
+use edit_script::Script;
 use outside::Pipe;
+use std::alloc::Global;
 use std::test::Fail;
+
+// A script without steps.
+fn no_steps(alloc: Global) -> Result<Script, Fail> {
+    Ok(edit_script::read(alloc, b"{\"steps\":[]}")?)
+}
 
 fn published(moment: u32) -> Entry {
     Entry::Published {
@@ -29,7 +36,8 @@ fn the_manifest_has_a_line_for_each_file_and_their_count(rt: HostRuntime) -> Res
         published(2),
         Entry::Closed,
     ];
-    let bytes = manifest(rt.alloc(), &journal)?;
+    let script = no_steps(rt.alloc())?;
+    let bytes = manifest(rt.alloc(), &journal, &script)?;
     let wanted = b"full 1 full-1.ppm\nfull 2 full-2.ppm\nend 2\n";
     assert_eq!(rt; bytes.as_slice(), wanted.as_slice());
     Ok(())

@@ -1,36 +1,17 @@
 -- the events that are read so far, in front of what the rest gives; the parts of an event
-use Rattle.std.proofs.Common.{◌≡◌, ℕ, ◌<◌, List, [], ◌∷◌, ◌++◌, length, suc, take, Option, Some, None, get_or, refl, sym, ap, ◌∙◌, append_assoc, arith}
-use Rattle.std.specs.Prelude.{option_map, option_and_then, nat_le, false, ◌≤◌}
+use Rattle.std.proofs.Common.{◌≡◌, ℕ, ◌<◌, List, [], ◌∷◌, ◌++◌, length, suc, take, Option, None, get_or, refl, sym, ap, ◌∙◌, arith}
+use Rattle.std.specs.Prelude.{option_map, nat_le, false, ◌≤◌}
 use Rattle.std.proofs.lemmas.Bool.{cases_lt}
 use Rattle.std.proofs.lemmas.Bool.Decides.{nat_tests}
 use Rattle.std.proofs.lemmas.List.{length-take}
 use Rattle.std.proofs.Common.{⊎_elim, take_all}
 use Rattle.serde_json.specs.View.{view, items_view}
 use Rattle.serde_json.specs.declared.value.Value.{Value}
-use Rattle.serde_json.specs.Data.{Data, Items, item}
 use Rattle.stepped.specs.declared.event.Event.{Event}
-use Rattle.stepped.specs.Reads.{event_of, event_of_one, event_of_two, event_of_three, events_in, event_of_parts, count_of, events_of}
+use Rattle.stepped.specs.Reads.{event_of_one, event_of_two, event_of_three, event_of_parts, count_of, events_of}
 
 abbrev pub with_front : List Event → Option (List Event) → Option (List Event)
 with_front front read = option_map (λ es. front ++ es) read
-
-pub with_none : (read : Option (List Event)) → with_front [] read ≡ read
-with_none None = refl
-with_none (Some es) = refl
-
-moved : (front : List Event) (e : Event) (read : Option (List Event))
-    → with_front front (option_and_then (λ es. Some (e ∷ es)) read) ≡ with_front (front ++ e ∷ []) read
-moved front e None = refl
-moved front e (Some es) = ap Some (sym (append_assoc front (e ∷ []) es))
-
--- one more event moves to the front
-pub with_one : (front : List Event) (d : Data) (e : Event) (rest : Items) → event_of d ≡ Some e
-    → with_front front (events_in (item d rest)) ≡ with_front (front ++ e ∷ []) (events_in rest)
-with_one front d e rest one = rw one (moved front e (events_in rest))
-
--- an event that hasn't the form
-pub with_refused : (front : List Event) (d : Data) (rest : Items) → event_of d ≡ None → with_front front (events_in (item d rest)) ≡ None
-with_refused front d rest none = rw none refl
 
 pub count_of_items : (values : List Value) → count_of (items_view values) ≡ length values
 count_of_items [] = refl

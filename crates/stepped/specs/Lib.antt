@@ -3,3 +3,4 @@ pub mod Outcome
 pub mod Machine
 pub mod Reads
 pub mod Read
+pub mod Texts

@@ -1,4 +1,5 @@
 use std::alloc::{AllocError, AllocFailed};
+use std::fmt;
 use thiserror::Error;
 
 /// Why events are refused.
@@ -6,6 +7,22 @@ use thiserror::Error;
 pub enum EventReason {
     /// The text is no JSON, or the value hasn't the form of a list of events.
     Form,
+    /// The event may not happen after those before it.
+    NotAllowed,
+}
+
+impl fmt::Display for EventReason {
+    ghost use Rattle.std.specs.Prelude.{Some};
+    ghost use Rattle.stepped.specs.Texts.{reason_text};
+
+    ghost output = { λ r. Some (reason_text r) };
+
+    fn fmt<W: fmt::Write>(&self, f: &mut fmt::Formatter<W>) -> fmt::Result {
+        match self {
+            EventReason::Form => f.write_str("form"),
+            EventReason::NotAllowed => f.write_str("not allowed"),
+        }
+    }
 }
 
 /// What was refused: an event, counted from 1, or 0 for the text or the list.

@@ -1,7 +1,7 @@
 use Rattle.std.proofs.lemmas.Option.{IfSome_then}
 use Rattle.px.specs.Cut.{picture_of}
 use Rattle.develop_session.proofs.ReadLemmas.{has_source, has_no_source}
-use Rattle.develop_session.proofs.develop.read_source.Goals as goal
+use Rattle.develop_session.proofs.inputs.read_source.Goals as goal
 
 pub returns-in-Ok-clause-source : goal.returns-in-Ok-clause-source
 returns-in-Ok-clause-source g c =

@@ -1,7 +1,7 @@
 use Rattle.std.proofs.Common.{sym, ◌∙◌}
 use Rattle.std.proofs.lemmas.Option.{IfSome_then}
 use Rattle.develop_session.proofs.ReadLemmas.{has_script, has_no_script}
-use Rattle.develop_session.proofs.develop.read_script.Goals as goal
+use Rattle.develop_session.proofs.inputs.read_script.Goals as goal
 
 pub returns-in-Ok-clause-script : goal.returns-in-Ok-clause-script
 returns-in-Ok-clause-script g c =

@@ -1,0 +1,92 @@
+-- the answer of each part of a command with its cause
+use Rattle.std.specs.Prelude.{◌≡◌, ◌⊎◌, ℕ, List, Option, IfSome}
+use Rattle.outside.specs.Shelf.{Files, PutsInPart}
+use Rattle.outside.specs.Said.{Says, SaysInPart}
+use Rattle.dev_core.specs.Subject.{SubjectSeen}
+use Rattle.stepped.specs.declared.event.Event.{Event}
+use Rattle.stepped.specs.declared.fault.EventReason.TheVariants.{NotAllowed}
+use Rattle.stepped.specs.Outcome.{OutcomeSeen, start_of, IsRefused}
+use Rattle.publish.specs.declared.put_end.PutEnd.{PutEnd}
+use Rattle.publish.specs.declared.put_end.PutEnd.TheVariants as put_end
+use Rattle.develop_session.specs.declared.status.Input.TheVariants as input
+use Rattle.develop_session.specs.declared.status.Status.{Status}
+use Rattle.develop_session.specs.declared.status.Status.TheVariants as status
+use Rattle.develop_session.specs.Files.{HasNoScript, HasSomeScript, HasNoSource, HasNoEvents}
+use Rattle.develop_session.specs.Replay.{HasLargeSource}
+use Rattle.develop_session.specs.Words.{Replay}
+
+-- a file failed: want of memory, or a fault of this name whose count rose
+abbrev pub FailsAt : List ℕ → Type 0 → Status → Type 0
+FailsAt name rose status.OutOfMemory = Unit {0}
+FailsAt name rose (status.ShelfFault at) = (at ≡ name) × rose
+FailsAt name rose _ = ⊥
+
+-- A put failed: want of memory changed nothing, and a fault of this name, whose count rose, left the old state or a prefix
+-- of the bytes.
+abbrev pub PutFailsAt : List ℕ → List ℕ → Type 0 → Option Files → Option Files → Status → Type 0
+PutFailsAt name bytes rose old new status.OutOfMemory = new ≡ old
+PutFailsAt name bytes rose old new (status.ShelfFault at) = (at ≡ name) × rose × PutsInPart name bytes old new
+PutFailsAt name bytes rose old new _ = ⊥
+
+-- the script wasn't read
+abbrev pub ScriptFails : List ℕ → Option Files → Type 0 → Status → Type 0
+ScriptFails name old rose (status.NotYet input.Script) = IfSome old (HasNoScript name)
+ScriptFails name old rose status.OutOfMemory = Unit {0}
+ScriptFails name old rose (status.ShelfFault at) = (at ≡ name) × rose
+ScriptFails name old rose _ = ⊥
+
+-- the source wasn't read
+abbrev pub SourceFails : List ℕ → Option Files → Type 0 → Status → Type 0
+SourceFails name old rose (status.NotYet input.Source) = IfSome old (HasNoSource name)
+SourceFails name old rose status.OutOfMemory = Unit {0}
+SourceFails name old rose (status.ShelfFault at) = (at ≡ name) × rose
+SourceFails name old rose _ = ⊥
+
+-- the file is no picture of the first form, or one that isn't small
+abbrev pub HasNoSmallSource : List ℕ → Files → Type 0
+HasNoSmallSource name fs = HasNoSource name fs ⊎ HasLargeSource name fs
+
+-- the source wasn't read, or isn't small
+abbrev pub SmallSourceFails : List ℕ → Option Files → Type 0 → Status → Type 0
+SmallSourceFails name old rose (status.NotYet input.Source) = IfSome old (HasNoSmallSource name)
+SmallSourceFails name old rose status.OutOfMemory = Unit {0}
+SmallSourceFails name old rose (status.ShelfFault at) = (at ≡ name) × rose
+SmallSourceFails name old rose _ = ⊥
+
+-- the script or the source wasn't read
+abbrev pub SubjectFails : Replay → Option Files → (List ℕ → Type 0) → Status → Type 0
+SubjectFails c old rose (status.NotYet input.Script) = IfSome old (HasNoScript c.script)
+SubjectFails c old rose (status.NotYet input.Source) = IfSome old (λ fs. HasSomeScript c.script fs × HasNoSmallSource c.source fs)
+SubjectFails c old rose status.OutOfMemory = Unit {0}
+SubjectFails c old rose (status.ShelfFault name) = ((name ≡ c.script) × rose name) ⊎ ((name ≡ c.source) × rose name × IfSome old (HasSomeScript c.script))
+SubjectFails c old rose _ = ⊥
+
+-- the events weren't read
+abbrev pub EventsFail : List ℕ → Option Files → Type 0 → Status → Type 0
+EventsFail name old rose (status.NotYet input.Events) = IfSome old (HasNoEvents name)
+EventsFail name old rose status.OutOfMemory = Unit {0}
+EventsFail name old rose (status.ShelfFault at) = (at ≡ name) × rose
+EventsFail name old rose _ = ⊥
+
+-- the events were cut short: one may not happen, or want of memory
+abbrev pub RunFails : SubjectSeen → List Event → Status → Type 0
+RunFails s events (status.EventsRefused place reason) = (reason ≡ NotAllowed) × ((before : OutcomeSeen) × IsRefused (start_of s) events place before)
+RunFails s events status.OutOfMemory = Unit {0}
+RunFails s events _ = ⊥
+
+-- the status of puts that were cut short
+abbrev pub put_status : PutEnd → Status
+put_status (put_end.Fault name) = status.ShelfFault name
+put_status put_end.Memory = status.OutOfMemory
+
+-- The line was said, or the output failed: after a fault whose count rose a front of it was said, after want of memory
+-- nothing.
+abbrev pub Tells : List ℕ → Type 0 → Option (List ℕ) → Option (List ℕ) → Type 0
+Tells line rose old new = Says line old new ⊎ ((rose × SaysInPart line old new) ⊎ (new ≡ old))
+
+-- what comes of saying the line of a command that did its work
+abbrev pub SaysLine : List ℕ → Type 0 → Option (List ℕ) → Option (List ℕ) → Status → Type 0
+SaysLine line rose was is status.Ok = Says line was is
+SaysLine line rose was is status.SaidFault = rose × SaysInPart line was is
+SaysLine line rose was is status.OutOfMemory = is ≡ was
+SaysLine line rose was is _ = ⊥

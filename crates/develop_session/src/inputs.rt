@@ -1,0 +1,129 @@
+//! The input files of a command: each read, judged and answered in the words of a status.
+ghost use Rattle.std.specs.Prelude.{◌≡◌, ℕ, ◌≤◌, List, length, IfOk, IfErr, IfSome};
+ghost use Rattle.px.specs.declared.kind.PlaneKind.TheVariants.{Rgb};
+ghost use Rattle.px.specs.Cut.{IsWhole, picture_of};
+ghost use Rattle.outside.specs.Faults.{Rose, NoneFalls};
+ghost use Rattle.develop_session.specs.Files.{HasScript, HasSource, HasEvents};
+ghost use Rattle.develop_session.specs.Replay.{IsSmall};
+ghost use Rattle.develop_session.specs.Failures.{ScriptFails, SourceFails, SmallSourceFails, EventsFail};
+
+use crate::devices::read_file;
+use crate::status::{Input, Status};
+use edit_script::{Script, ScriptEnd};
+use outside::Shelf;
+use pnm::PnmEnd;
+use px::Plane;
+use std::alloc::Global;
+use stepped::{Event, EventsEnd};
+
+/// How many bytes of a script are read: one more than a script has at most.
+const SCRIPT_FRONT: usize = 4_194_305;
+
+/// How many bytes of a source are looked at.
+pub(crate) const SOURCE_FRONT: usize = 268_435_456;
+
+/// The script under a name.
+pub(crate) fn read_script<S: Shelf>(
+    alloc: Global,
+    shelf: &mut S,
+    name: &str,
+) -> Result<Script, Status>
+    ensures script { IfOk result (λ s. IfSome (S.files shelf.old) (λ fs. HasScript name.now fs s)) }
+    ensures cause { IfErr result (ScriptFails name.now (S.files shelf.old) (Rose (S.read_faults shelf.old name.now) (S.read_faults shelf.new name.now))) }
+    ensures unchanged { S.files shelf.new ≡ S.files shelf.old }
+    ensures reads { NoneFalls (S.read_faults shelf.old) (S.read_faults shelf.new) }
+    ensures puts { NoneFalls (S.put_faults shelf.old) (S.put_faults shelf.new) }
+{
+    let bytes = read_file(alloc, shelf, name, SCRIPT_FRONT)?;
+    match edit_script::read(alloc, bytes.as_slice()) {
+        Ok(script) => Ok(script),
+        Err(ScriptEnd::Fault(_)) => Err(Status::NotYet {
+            what: Input::Script,
+        }),
+        Err(ScriptEnd::Memory) => Err(Status::OutOfMemory),
+    }
+}
+
+/// The picture at the front of the file under a name.
+pub(crate) fn read_source<S: Shelf>(
+    alloc: Global,
+    shelf: &mut S,
+    name: &str,
+    front: usize,
+) -> Result<Plane, Status>
+    requires long { 100000000 ≤ front }
+    ensures source { IfOk result (λ p. IfSome (S.files shelf.old) (λ fs. HasSource name.now fs (picture_of p))) }
+    ensures whole { IfOk result (λ p. IsWhole p) }
+    ensures rgb { IfOk result (λ p. p.kind ≡ Rgb) }
+    ensures cause { IfErr result (SourceFails name.now (S.files shelf.old) (Rose (S.read_faults shelf.old name.now) (S.read_faults shelf.new name.now))) }
+    ensures unchanged { S.files shelf.new ≡ S.files shelf.old }
+    ensures reads { NoneFalls (S.read_faults shelf.old) (S.read_faults shelf.new) }
+    ensures puts { NoneFalls (S.put_faults shelf.old) (S.put_faults shelf.new) }
+{
+    let bytes = read_file(alloc, shelf, name, front)?;
+    match pnm::read(alloc, bytes.as_slice()) {
+        Ok(plane) => Ok(plane),
+        Err(PnmEnd::Fault(_)) => Err(Status::NotYet {
+            what: Input::Source,
+        }),
+        Err(PnmEnd::Memory) => Err(Status::OutOfMemory),
+    }
+}
+
+/// The greatest sides of a small source, in pixels.
+const WIDEST: u32 = 720;
+
+const HIGHEST: u32 = 480;
+
+/// How many bytes of a list of events are read: one more than a list has at most.
+const EVENTS_FRONT: usize = 4_194_305;
+
+/// The picture under a name, which is at most 720 pixels wide and 480 high.
+pub(crate) fn read_small_source<S: Shelf>(
+    alloc: Global,
+    shelf: &mut S,
+    name: &str,
+    front: usize,
+) -> Result<Plane, Status>
+    requires long { 100000000 ≤ front }
+    ensures source { IfOk result (λ p. IfSome (S.files shelf.old) (λ fs. HasSource name.now fs (picture_of p))) }
+    ensures whole { IfOk result (λ p. IsWhole p) }
+    ensures rgb { IfOk result (λ p. p.kind ≡ Rgb) }
+    ensures small { IfOk result (λ p. IsSmall (picture_of p)) }
+    ensures cause { IfErr result (SmallSourceFails name.now (S.files shelf.old) (Rose (S.read_faults shelf.old name.now) (S.read_faults shelf.new name.now))) }
+    ensures unchanged { S.files shelf.new ≡ S.files shelf.old }
+    ensures reads { NoneFalls (S.read_faults shelf.old) (S.read_faults shelf.new) }
+    ensures puts { NoneFalls (S.put_faults shelf.old) (S.put_faults shelf.new) }
+{
+    let plane = read_source(alloc, shelf, name, front)?;
+    let (w, h) = plane.sides();
+    if w > WIDEST || h > HIGHEST {
+        return Err(Status::NotYet {
+            what: Input::Source,
+        });
+    }
+    Ok(plane)
+}
+
+/// The events under a name.
+pub(crate) fn read_events<S: Shelf>(
+    alloc: Global,
+    shelf: &mut S,
+    name: &str,
+) -> Result<Vec<Event>, Status>
+    ensures events { IfOk result (λ es. IfSome (S.files shelf.old) (λ fs. HasEvents name.now fs es.items)) }
+    ensures few { IfOk result (λ es. length es.items ≤ 65536) }
+    ensures cause { IfErr result (EventsFail name.now (S.files shelf.old) (Rose (S.read_faults shelf.old name.now) (S.read_faults shelf.new name.now))) }
+    ensures unchanged { S.files shelf.new ≡ S.files shelf.old }
+    ensures reads { NoneFalls (S.read_faults shelf.old) (S.read_faults shelf.new) }
+    ensures puts { NoneFalls (S.put_faults shelf.old) (S.put_faults shelf.new) }
+{
+    let bytes = read_file(alloc, shelf, name, EVENTS_FRONT)?;
+    match stepped::read_events(alloc, bytes.as_slice()) {
+        Ok(events) => Ok(events),
+        Err(EventsEnd::Fault(_)) => Err(Status::NotYet {
+            what: Input::Events,
+        }),
+        Err(EventsEnd::Memory) => Err(Status::OutOfMemory),
+    }
+}

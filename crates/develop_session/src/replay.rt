@@ -1,0 +1,155 @@
+//! `stepped`: the files of the journal that a list of events makes.
+ghost use Rattle.std.specs.Prelude.{◌≡◌, ◌↔◌, ◌≤◌, length, IfOk, IfErr, IfSome, IsTrue};
+ghost use Rattle.std.specs.Arc.{arc_value};
+ghost use Rattle.px.specs.declared.kind.PlaneKind.TheVariants.{Rgb};
+ghost use Rattle.px.specs.Cut.{IsWhole};
+ghost use Rattle.outside.specs.Faults.{Rose, NoneFalls};
+ghost use Rattle.dev_core.specs.Desk.{IsComplete};
+ghost use Rattle.dev_core.specs.Lines.{lines};
+ghost use Rattle.stepped.specs.Outcome.{AllAllowed, start_of};
+ghost use Rattle.stepped.specs.Step.{desk_at};
+ghost use Rattle.publish.specs.Files.{RoseAt};
+ghost use Rattle.develop_session.specs.Failures.{RunFails, SaysLine, SubjectFails};
+ghost use Rattle.develop_session.specs.Names.{replay};
+ghost use Rattle.develop_session.specs.Replay.{HasSubject, IsReplayed, outcome_of};
+ghost use Rattle.develop_session.specs.Replies.{Declines, Replies};
+ghost use Rattle.develop_session.specs.Texts.{replayed_text};
+ghost use Rattle.develop_session.specs.Words.{Replay};
+
+use crate::command::ReplayNames;
+use crate::devices::{say_line, tell};
+use crate::inputs::{SOURCE_FRONT, read_events, read_script, read_small_source};
+use crate::status::Status;
+use crate::tally::{Tally, replayed_line};
+use dev_core::{Source, Subject};
+use edit_script::Script;
+use outside::{Said, Shelf};
+use publish::write_all;
+use px::Plane;
+use std::alloc::{AllocError, Global};
+use std::sync::Arc;
+use std::thread::Threads;
+use stepped::{Event, EventReason, Outcome, StepEnd, stepped};
+
+fn subject_of(alloc: Global, script: Script, plane: Plane) -> Result<Arc<Subject>, AllocError>
+    requires rgb { plane.kind ≡ Rgb }
+    requires whole { IsWhole plane }
+    ensures { IfOk result (λ s. arc_value s ≡ record { source = plane; script = script }) }
+{
+    let source = Arc::new(alloc, Source::of(plane)).map_err(AllocError::from)?;
+    Ok(Arc::new(alloc, Subject::of(source, script)).map_err(AllocError::from)?)
+}
+
+// The subject of the script and the source.
+fn read_subject<S: Shelf>(
+    alloc: Global,
+    shelf: &mut S,
+    names: ReplayNames<'_>,
+) -> Result<Arc<Subject>, Status>
+    ensures subject { IfOk result (λ s. IfSome (S.files shelf.old) (λ fs. HasSubject (replay names.entry) fs (arc_value s))) }
+    ensures cause { IfErr result (SubjectFails (replay names.entry) (S.files shelf.old) (RoseAt (S.read_faults shelf.old) (S.read_faults shelf.new))) }
+    ensures unchanged { S.files shelf.new ≡ S.files shelf.old }
+    ensures reads { NoneFalls (S.read_faults shelf.old) (S.read_faults shelf.new) }
+    ensures puts { NoneFalls (S.put_faults shelf.old) (S.put_faults shelf.new) }
+{
+    let script = read_script(alloc, shelf, names.script)?;
+    let plane = read_small_source(alloc, shelf, names.source, SOURCE_FRONT)?;
+    Ok(subject_of(alloc, script, plane)?)
+}
+
+// What all events leave, where each may happen.
+fn run_all<R: Threads + Sync>(
+    rt: &R,
+    alloc: Global,
+    subject: &Arc<Subject>,
+    events: &[Event],
+) -> Result<Outcome, Status>
+    requires few { length events.now ≤ 65536 }
+    ensures allowed { IfOk result (λ o. AllAllowed (start_of (arc_value subject.now)) events.now) }
+    ensures outcome { IfOk result (λ o. o ≡ outcome_of (arc_value subject.now) events.now) }
+    ensures cause { IfErr result (RunFails (arc_value subject.now) events.now) }
+{
+    let mut outcome = Outcome::start(alloc, subject)?;
+    match stepped(rt, alloc, subject, events, &mut outcome) {
+        Ok(()) => Ok(outcome),
+        Err(StepEnd::NotAllowed { place }) => Err(Status::EventsRefused {
+            place: place as u32,
+            reason: EventReason::NotAllowed,
+        }),
+        Err(StepEnd::Memory) => Err(Status::OutOfMemory),
+    }
+}
+
+fn tally_of(events: &[Event], outcome: &Outcome) -> Tally
+    ensures events { result.events ≡ length events.now }
+    ensures lines { result.lines ≡ length (lines outcome.now.core.subject.script outcome.now.core.journal) }
+    ensures complete { IsTrue result.complete ↔ IsComplete outcome.now.core.subject.script (desk_at outcome.now.core) }
+{
+    let desk = outcome.desk();
+    Tally {
+        events: events.len(),
+        lines: desk.frames().len(),
+        complete: desk.complete(),
+    }
+}
+
+// Reads, runs and puts; what the line says.
+fn run_files<R: Threads + Sync, S: Shelf>(
+    rt: &R,
+    alloc: Global,
+    names: ReplayNames<'_>,
+    shelf: &mut S,
+) -> Result<Tally, Status>
+    ensures ok { IfOk result (λ t. IsReplayed (replay names.entry) (S.files shelf.old) (S.files shelf.new) t) }
+    ensures cause { IfErr result (Declines (replay names.entry) (S.files shelf.old) (S.files shelf.new) (RoseAt (S.read_faults shelf.old) (S.read_faults shelf.new)) (RoseAt (S.put_faults shelf.old) (S.put_faults shelf.new))) }
+{
+    let subject = read_subject(alloc, shelf, names)?;
+    let events = read_events(alloc, shelf, names.events)?;
+    let outcome = run_all(rt, alloc, &subject, events.as_slice())?;
+    write_all(alloc, outcome.desk(), shelf)?;
+    Ok(tally_of(events.as_slice(), &outcome))
+}
+
+// Says the line of a replay.
+fn say_replayed<O: Said>(alloc: Global, said: &mut O, tally: Tally) -> Status
+    ensures { SaysLine (replayed_text tally) (Rose (O.faults said.old) (O.faults said.new)) (O.said said.old) (O.said said.new) result }
+{
+    match replayed_line(alloc, tally) {
+        Ok(line) => say_line(said, line.as_str()),
+        Err(_) => Status::OutOfMemory,
+    }
+}
+
+/// Replays the EVENTS on the picture SOURCE and the script SCRIPT, puts the files of the journal that
+/// they make, and says how many events and lines there were and whether all was done. The source is
+/// at most 720 pixels wide and 480 high.
+pub fn run_stepped<R: Threads + Sync, S: Shelf, O: Said>(
+    rt: &R,
+    alloc: Global,
+    script: &str,
+    source: &str,
+    events: &str,
+    shelf: &mut S,
+    said: &mut O,
+) -> Status
+    ensures { let c : Replay = record { script = script.now; source = source.now; events = events.now } in
+        Replies c (S.files shelf.old) (S.files shelf.new) (RoseAt (S.read_faults shelf.old) (S.read_faults shelf.new)) (RoseAt (S.put_faults shelf.old) (S.put_faults shelf.new))
+        (Rose (O.faults said.old) (O.faults said.new)) (O.said said.old) (O.said said.new) result }
+{
+    match run_files(
+        rt,
+        alloc,
+        ReplayNames {
+            script,
+            source,
+            events,
+        },
+        shelf,
+    ) {
+        Ok(tally) => say_replayed(alloc, said, tally),
+        Err(status) => {
+            tell(alloc, said, &status);
+            status
+        }
+    }
+}
