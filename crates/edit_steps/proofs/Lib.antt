@@ -1,0 +1,4 @@
+pub mod ChangeLemmas
+pub mod FaultLemmas
+pub mod KeptLemmas
+pub mod OpeningLemmas

@@ -1,0 +1,6 @@
+//! The texts of scripts and events as JSON values.
+#![tactic(auto)]
+
+mod text;
+
+pub use text::{LONGEST, TextEnd, value_of};
