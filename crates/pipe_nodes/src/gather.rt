@@ -1,0 +1,97 @@
+ghost use Rattle.std.specs.Prelude.{◌≡◌, ◌↔◌, IsTrue, ◌<◌, ◌≤◌, ◌+◌, ◌++◌, IfOk, vec_len, vec_capacity};
+ghost use Rattle.std.specs.List.{All};
+ghost use Rattle.std.specs.Option.{option_copied, option_to_list};
+ghost use Rattle.pipe_nodes.specs.Active.{IsFit};
+ghost use Rattle.pipe_nodes.specs.Actives.{IsBuiltItem, last_of, active_of, active_at, actives_of};
+
+use crate::active::{Active, is_built_module};
+use history::{History, Item};
+use module_order::Slot;
+use params::Params;
+use std::alloc::{AllocError, Global};
+
+/// The slot of demosaic, which has one instance.
+pub(crate) const DEMOSAIC: Slot = Slot {
+    module: 2,
+    instance: 0,
+};
+
+// The item that was set last of those of the instance, if there is one.
+pub(crate) fn last_of(items: &[Item], slot: Slot) -> Option<&Item>
+    ensures { option_copied result ≡ last_of slot items.now }
+{
+    let mut last = None;
+    for item in items {
+        if item.slot() == slot {
+            last = Some(item);
+        }
+    }
+    last
+}
+
+// The item's values, where it is enabled.
+fn active_of(alloc: Global, item: &Item) -> Result<Option<Active>, AllocError>
+    ensures { IfOk result (λ active. active ≡ active_of item.now) }
+{
+    if !item.enabled {
+        return Ok(None);
+    }
+    Ok(Some(Active {
+        instance: item.instance,
+        params: params::copy(alloc, &item.params)?,
+        blend: item.blend,
+    }))
+}
+
+// What is active of the instance, by the items that count.
+fn active_at(alloc: Global, items: &[Item], slot: Slot) -> Result<Option<Active>, AllocError>
+    ensures { IfOk result (λ active. active ≡ active_at items.now slot) }
+{
+    if slot == DEMOSAIC {
+        return Ok(Some(Active {
+            instance: 0,
+            params: Params::Demosaic,
+            blend: None,
+        }));
+    }
+    match last_of(items, slot) {
+        Some(item) => active_of(alloc, item),
+        None => Ok(None),
+    }
+}
+
+// Adds what is active, if anything is.
+fn keep(actives: &mut Vec<Active>, active: Option<Active>)
+    requires { vec_len actives.old < vec_capacity actives.old }
+    ensures items { actives.new.items ≡ actives.old.items ++ option_to_list active }
+    ensures len { vec_len actives.new ≤ vec_len actives.old + 1 }
+    ensures capacity { vec_capacity actives.new ≡ vec_capacity actives.old }
+{
+    if let Some(active) = active {
+        actives.push_reserved(active);
+    }
+}
+
+/// Whether a run can apply the item's values, so far: it is of demosaic or of exposure, and has no
+/// blend.
+pub fn is_built_item(item: &Item) -> bool
+    ensures { IsTrue result ↔ IsBuiltItem item.now }
+{
+    is_built_module(item.module()) && item.blend.is_none()
+}
+
+/// What is active in a history, along the order of its instances: of each instance the last item among
+/// those that count, where it is enabled. An instance without an item is disabled, and demosaic is
+/// always active.
+pub fn actives(alloc: Global, history: &History) -> Result<Vec<Active>, AllocError>
+    ensures value { IfOk result (λ list. list.items ≡ actives_of history.now) }
+    ensures fit { IfOk result (λ list. All IsFit list.items) }
+{
+    let items = &history.items()[..history.end() as usize];
+    let order = history.order();
+    let mut actives = Vec::with_capacity(alloc, order.len())?;
+    for i in 0..order.len() {
+        keep(&mut actives, active_at(alloc, items, order.at(i))?);
+    }
+    Ok(actives)
+}

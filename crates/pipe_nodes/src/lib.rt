@@ -1,0 +1,31 @@
+//! The pieces of a pixelpipe: what is active in a history, what a list of module instances makes of a
+//! source picture, and the plain run that makes it, over whole pictures and without caches.
+#![tactic(auto)]
+
+mod active;
+mod apply;
+mod counting;
+mod gather;
+mod piece;
+mod prefix;
+mod render;
+mod run;
+mod show;
+mod source;
+#[cfg(test)]
+mod stage_tests;
+mod staged;
+mod steps;
+#[cfg(test)]
+mod tests;
+
+pub use active::{Active, are_built};
+pub use counting::active_count;
+pub use gather::{actives, is_built_item};
+pub use piece::{Piece, commit};
+pub use prefix::Prefix;
+pub use run::{shown_bytes, uncached};
+pub use show::{Show, Window};
+pub use source::Source;
+pub use staged::Staged;
+pub use steps::Steps;
