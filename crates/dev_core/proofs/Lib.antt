@@ -1,2 +1,4 @@
+pub mod BuiltLemmas
+pub mod LaterLemmas
 pub mod DeskLemmas
 pub mod OwnLemmas

@@ -8,7 +8,7 @@ use Rattle.outside.specs.declared.job_name.JobName.{JobName}
 use Rattle.outside.specs.declared.job_name.JobName.TheVariants as job
 use Rattle.outside.specs.declared.job_name.Pipe.{Pipe}
 use Rattle.outside.specs.declared.job_name.Pipe.TheVariants.{Full, Preview}
-use Rattle.params.specs.declared.settings.Exposure.{Exposure}
+use Rattle.edit_steps.specs.Script.{Recipe}
 use Rattle.dev_core.specs.declared.desk.Desk.{Desk}
 use Rattle.dev_core.specs.declared.desk.Hold.{Hold}
 use Rattle.dev_core.specs.declared.desk.Slot.{Slot}
@@ -78,7 +78,7 @@ no_line : (t k : ℕ) → ⊥ ↔ (◌≡◌ {A = Option Line} None (Some (recor
 no_line t k = ((λ h. absurd h), (λ e. absurd (none_some (record { job = job.Ticket t; moment = k }) e)))
 
 -- an entry of the worker's own
-says_mine : (script : List Exposure) (d : Desk) (e : Entry) (has : Option Line) → Says d (worker_of e) has → May script d e → Says (next d e) (worker_of e) (job_after has e)
+says_mine : (script : Recipe) (d : Desk) (e : Entry) (has : Option Line) → Says d (worker_of e) has → May script d e → Says (next d e) (worker_of e) (job_after has e)
 says_mine script d (Changed m) has says may name k = says name k
 says_mine script d Closed has says may name k = says name k
 says_mine script d (Took p w m) has says may (job.Pipe q) k =
@@ -97,7 +97,7 @@ not_both : (d : Desk) (w n : ℕ) (p : Pipe) (m : ℕ) → w ≢ n → HoldsPipe
 not_both d w n p m other mine i his = other (same_worker w m n i (sym mine ∙ his))
 
 -- an entry of another worker
-says_other : (script : List Exposure) (d : Desk) (e : Entry) (n : ℕ) (has : Option Line) → worker_of e ≢ n → Says d n has → May script d e → Says (next d e) n has
+says_other : (script : Recipe) (d : Desk) (e : Entry) (n : ℕ) (has : Option Line) → worker_of e ≢ n → Says d n has → May script d e → Says (next d e) n has
 says_other script d (Changed m) n has other says may name k = says name k
 says_other script d Closed n has other says may name k = says name k
 says_other script d (Took p w m) n has other says may (job.Pipe q) k =
@@ -113,7 +113,7 @@ says_other script d (GaveBack p w) n has other says may (job.Pipe q) k =
     other_at d.slots p q _ n k _ (λ i h. free_held n i h) (not_both d w n p may.0 other may.1) (says (job.Pipe q) k)
 says_other script d (GaveBack p w) n has other says may (job.Ticket t) k = says (job.Ticket t) k
 
-says_next : (script : List Exposure) (d : Desk) (e : Entry) (n : ℕ) (has : Option Line) → Says d n has → May script d e
+says_next : (script : Recipe) (d : Desk) (e : Entry) (n : ℕ) (has : Option Line) → Says d n has → May script d e
     → Says (next d e) n (cond (worker_of e == n) (job_after has e) has)
 says_next script d e n has says may =
     let After : Bool → Type 0 = λ b. Says (next d e) n (cond b (job_after has e) has) in
@@ -128,7 +128,7 @@ held_from : (n : ℕ) (has : Option Line) (e : Entry) (es : List Entry) (b : Boo
 held_from n has e es true = refl
 held_from n has e es false = refl
 
-own_says : (script : List Exposure) (n : ℕ) (es : List Entry) (d : Desk) (has : Option Line) → Says d n has → LegalFrom script d es → Says (desk_of d es) n (held has (own n es))
+own_says : (script : Recipe) (n : ℕ) (es : List Entry) (d : Desk) (has : Option Line) → Says d n has → LegalFrom script d es → Says (desk_of d es) n (held has (own n es))
 own_says script n [] d has says legal = says
 own_says script n (e ∷ es) d has says legal =
     subst (Says (desk_of (next d e) es) n) (sym (held_from n has e es (worker_of e == n)))
@@ -140,7 +140,7 @@ says_start n (job.Pipe Preview) m = ((λ h. absurd (free_held n m h)), (λ e. ab
 says_start n (job.Ticket t) m = no_line t m
 
 -- after a legal journal, a worker has what its own entries say
-pub says_now : (script : List Exposure) (n : ℕ) (es : List Entry) → Legal script es → Says (desk_of start es) n (job_of n es)
+pub says_now : (script : Recipe) (n : ℕ) (es : List Entry) → Legal script es → Says (desk_of start es) n (job_of n es)
 says_now script n es legal = own_says script n es start None (says_start n) legal
 
 eqb_other : (a b : ℕ) → a ≢ b → eqb a b ≡ false

@@ -1,10 +1,12 @@
 -- the desk as a fold over its journal, and where an entry may stand
-use Rattle.std.specs.Prelude.{◌≡◌, ℕ, ◌+◌, ◌<◌, ◌≤◌, List, [], ◌∷◌, length, slice_get, Bool, true, false, Option, Some, None}
+use Rattle.std.specs.Prelude.{◌≡◌, ℕ, ◌+◌, ◌<◌, IsTrue, List, [], ◌∷◌, length, slice_get, Bool, true, false, Option, Some, None}
 use Rattle.outside.specs.declared.job_name.JobName.{JobName}
 use Rattle.outside.specs.declared.job_name.JobName.TheVariants as job
 use Rattle.outside.specs.declared.job_name.Pipe.{Pipe}
 use Rattle.outside.specs.declared.job_name.Pipe.TheVariants.{Full, Preview}
-use Rattle.params.specs.declared.settings.Exposure.{Exposure}
+use Rattle.edit_steps.specs.declared.step.Step.{Step}
+use Rattle.edit_steps.specs.Changes.{is_change}
+use Rattle.edit_steps.specs.Script.{Recipe, concerns_between}
 use Rattle.dev_core.specs.declared.desk.Desk.{Desk}
 use Rattle.dev_core.specs.declared.desk.Hold.{Hold}
 use Rattle.dev_core.specs.declared.desk.Slot.{Slot}
@@ -19,18 +21,15 @@ abbrev pub is_kept : Pipe → Bool
 is_kept Full = true
 is_kept Preview = false
 
--- whether a change concerns a pipe: a change of the exposure concerns every pipe
-abbrev pub concerns : Exposure → Pipe → Bool
-concerns e p = true
-
 -- one of the changes after the first a, and among the first b, concerns the pipe
-pub record Later (script : List Exposure) (p : Pipe) (a b : ℕ) : Type 0 where
-  pub place : ℕ
-  pub change : Exposure
-  pub after : a ≤ place
-  pub before : place < b
-  pub stands : slice_get script place ≡ Some change
-  pub concerned : concerns change p ≡ true
+abbrev pub Later : Recipe → Pipe → ℕ → ℕ → Type 0
+Later script p a b = IsTrue (concerns_between script p a b)
+
+-- the script's next step is a change
+pub record ChangesNext (script : Recipe) (d : Desk) : Type 0 where
+  pub step : Step
+  pub stands : slice_get script.steps d.steps ≡ Some step
+  pub changes_it : is_change step ≡ true
 
 abbrev pub at : Slots → Pipe → Slot
 at s Full = s.full
@@ -79,63 +78,50 @@ abbrev pub IsIdle : Desk → ℕ → Type 0
 IsIdle d w = (p : Pipe) (m : ℕ) → HoldsPipe d w p m → ⊥
 
 -- the pipe was published, and no change after that moment concerns it
-abbrev pub IsUpToDate : List Exposure → Desk → Pipe → Type 0
+abbrev pub IsUpToDate : Recipe → Desk → Pipe → Type 0
 IsUpToDate script d p = (m : ℕ) × ((at d.slots p).published ≡ Some m) × (Later script p m d.moment → ⊥)
 
 -- the pipe is free and not up to date
-pub record IsDue (script : List Exposure) (d : Desk) (p : Pipe) : Type 0 where
+pub record IsDue (script : Recipe) (d : Desk) (p : Pipe) : Type 0 where
   pub kept : is_kept p ≡ true
   pub free : IsFree d p
   pub behind : (m : ℕ) → (at d.slots p).published ≡ Some m → Later script p m d.moment
 
--- the same by the moments alone, where each change concerns every pipe
-pub record IsBehind (d : Desk) (p : Pipe) : Type 0 where
-  pub kept : is_kept p ≡ true
-  pub free : IsFree d p
-  pub below : (m : ℕ) → (at d.slots p).published ≡ Some m → m < d.moment
-
--- the pipe is free, and has published the present moment
-pub record IsReached (d : Desk) (p : Pipe) : Type 0 where
-  pub moment : ℕ
-  pub published : (at d.slots p).published ≡ Some moment
-  pub above : d.moment ≤ moment
-  pub free : IsFree d p
-
 -- the pipe is due; no ticket was ever asked
-abbrev pub IsDueJob : List Exposure → Desk → JobName → Type 0
+abbrev pub IsDueJob : Recipe → Desk → JobName → Type 0
 IsDueJob script d (job.Pipe p) = IsDue script d p
 IsDueJob script d (job.Ticket t) = ⊥
 
-abbrev pub IsSettled : List Exposure → Desk → Type 0
+abbrev pub IsSettled : Recipe → Desk → Type 0
 IsSettled script d = (p : Pipe) → is_kept p ≡ true → IsUpToDate script d p × IsFree d p
 
 -- every step is done, the desk is closed, and each pipe is up to date and free
-abbrev pub IsComplete : List Exposure → Desk → Type 0
-IsComplete script d = (d.steps ≡ length script) × (d.closed ≡ true) × IsSettled script d
+abbrev pub IsComplete : Recipe → Desk → Type 0
+IsComplete script d = (d.steps ≡ length script.steps) × (d.closed ≡ true) × IsSettled script d
 
 -- the worker has the pipe at that moment, and a change after it concerns the pipe
-abbrev pub IsSuperseded : List Exposure → Desk → Pipe → ℕ → ℕ → Type 0
+abbrev pub IsSuperseded : Recipe → Desk → Pipe → ℕ → ℕ → Type 0
 IsSuperseded script d p w m = HoldsPipe d w p m × Later script p m d.moment
 
 -- where an entry may stand
-abbrev pub May : List Exposure → Desk → Entry → Type 0
-May script d (Changed m) = (d.steps < length script) × (m ≡ d.moment + 1)
-May script d Closed = (d.steps ≡ length script) × (d.closed ≡ false)
+abbrev pub May : Recipe → Desk → Entry → Type 0
+May script d (Changed m) = ChangesNext script d × (m ≡ d.moment + 1)
+May script d Closed = (d.steps ≡ length script.steps) × (d.closed ≡ false)
 May script d (Took p w m) = IsDue script d p × IsIdle d w × (m ≡ d.moment)
 May script d (Restarted p w m) = (h : ℕ) × IsSuperseded script d p w h × (m ≡ d.moment)
 May script d (Published p w m) = HoldsPipe d w p m
 May script d (GaveBack p w) = (h : ℕ) × HoldsPipe d w p h
 
-abbrev pub LegalFrom : List Exposure → Desk → List Entry → Type 0
+abbrev pub LegalFrom : Recipe → Desk → List Entry → Type 0
 LegalFrom script d [] = Unit {0}
 LegalFrom script d (e ∷ es) = May script d e × LegalFrom script (next d e) es
 
 -- each entry stands where it may, after those before it
-abbrev pub Legal : List Exposure → List Entry → Type 0
+abbrev pub Legal : Recipe → List Entry → Type 0
 Legal script es = LegalFrom script start es
 
 -- what the editor does next. Steps are counted from 1
-abbrev pub IsNextStep : List Exposure → Desk → NextStep → Type 0
-IsNextStep script d (next_is.Step n) = (d.closed ≡ false) × (d.steps < length script) × (n ≡ d.steps + 1)
-IsNextStep script d next_is.Close = (d.closed ≡ false) × (d.steps ≡ length script)
+abbrev pub IsNextStep : Recipe → Desk → NextStep → Type 0
+IsNextStep script d (next_is.Step n) = (d.closed ≡ false) × (d.steps < length script.steps) × (n ≡ d.steps + 1)
+IsNextStep script d next_is.Close = (d.closed ≡ false) × (d.steps ≡ length script.steps)
 IsNextStep script d next_is.Closed = d.closed ≡ true

@@ -1,5 +1,5 @@
 pub mod Room
-pub mod Shown
+pub mod Built
 pub mod Subject
 pub mod Jobs
 pub mod Desk

@@ -2,7 +2,7 @@
 use Rattle.std.specs.Prelude.{ℕ, List, [], ◌∷◌, ◌++◌, map}
 use Rattle.outside.specs.declared.job_name.JobName.{JobName}
 use Rattle.outside.specs.declared.job_name.JobName.TheVariants as job
-use Rattle.params.specs.declared.settings.Exposure.{Exposure}
+use Rattle.edit_steps.specs.Script.{Recipe}
 use Rattle.dev_core.specs.declared.entry.Entry.{Entry}
 use Rattle.dev_core.specs.declared.entry.Entry.TheVariants.{Published}
 use Rattle.dev_core.specs.Subject.{SubjectSeen}
@@ -12,12 +12,12 @@ pub record Line : Type 0 where
   pub job : JobName
   pub moment : ℕ
 
-abbrev pub line_of : List Exposure → Entry → List Line
+abbrev pub line_of : Recipe → Entry → List Line
 line_of script (Published p w m) = record { job = job.Pipe p; moment = m } ∷ []
 line_of script _ = []
 
 -- one line for each job that was done, in the journal's order
-abbrev pub lines : List Exposure → List Entry → List Line
+abbrev pub lines : Recipe → List Entry → List Line
 lines script [] = []
 lines script (e ∷ es) = line_of script e ++ lines script es
 

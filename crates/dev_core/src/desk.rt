@@ -1,6 +1,6 @@
 //! The desk as its journal leaves it: a fold over the entries.
 ghost use Rattle.std.specs.Prelude.{◌≡◌, ◌↔◌, ◌+◌, ◌^◌, ◌<◌, IsTrue};
-ghost use Rattle.dev_core.specs.Desk.{start, next, at, put, no_slot, held_by, is_kept, IsBehind, IsReached};
+ghost use Rattle.dev_core.specs.Desk.{start, next, at, put, no_slot, held_by, IsFree};
 
 use crate::entry::Entry;
 use outside::Pipe;
@@ -41,16 +41,6 @@ fn no_slot() -> Slot
     Slot {
         hold: None,
         published: None,
-    }
-}
-
-// The pipes that a desk keeps up to date.
-fn is_kept(pipe: Pipe) -> bool
-    ensures { result ≡ is_kept pipe }
-{
-    match pipe {
-        Pipe::Full => true,
-        Pipe::Preview => false,
     }
 }
 
@@ -123,32 +113,18 @@ impl Desk {
         }
     }
 
-    /// Whether the pipe is free, and what it published last is of an earlier moment.
-    pub(crate) fn is_behind(self, pipe: Pipe) -> bool
-        ensures { IsTrue result ↔ IsBehind self pipe }
+    /// Whether no job of the pipe is out.
+    pub(crate) fn is_free(self, pipe: Pipe) -> bool
+        ensures { IsTrue result ↔ IsFree self pipe }
     {
-        let slot = self.slots.at(pipe);
-        if !is_kept(pipe) || slot.hold.is_some() {
-            return false;
-        }
-        match slot.published {
-            None => true,
-            Some(moment) => moment < self.moment,
-        }
+        self.slots.at(pipe).hold.is_none()
     }
 
-    /// Whether the pipe is free, and has published the present moment.
-    pub(crate) fn is_reached(self, pipe: Pipe) -> bool
-        ensures { IsTrue result ↔ IsReached self pipe }
+    /// The moment that the pipe published last.
+    pub(crate) fn published(self, pipe: Pipe) -> Option<u32>
+        ensures { result ≡ (at self.slots pipe).published }
     {
-        let slot = self.slots.at(pipe);
-        if slot.hold.is_some() {
-            return false;
-        }
-        match slot.published {
-            None => false,
-            Some(moment) => moment >= self.moment,
-        }
+        self.slots.at(pipe).published
     }
 
     fn with_slots(self, slots: Slots) -> Desk

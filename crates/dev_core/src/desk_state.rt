@@ -1,12 +1,14 @@
-ghost use Rattle.std.specs.Prelude.{◌≡◌, ◌↔◌, ◌≤◌, ◌+◌, [], length, IsTrue, IfOk, OnOk, OnErr};
+ghost use Rattle.std.specs.Prelude.{◌≡◌, ◌↔◌, ◌≤◌, ◌+◌, [], IsTrue, IfOk, OnOk, OnErr};
 ghost use Rattle.std.specs.Arc.{arc_value};
 ghost use Rattle.outside.specs.declared.job_name.JobName.TheVariants.{Pipe as pipe_job};
+ghost use Rattle.edit_steps.specs.Script.{changes};
 ghost use Rattle.dev_core.specs.declared.entry.Entry.TheVariants as entry;
 ghost use Rattle.dev_core.specs.Desk.{May, Legal, HoldsPipe, IsSuperseded, IsDueJob, Later, IsComplete, IsNextStep};
 ghost use Rattle.dev_core.specs.DeskState.{now, with_entry};
 ghost use Rattle.dev_core.specs.Jobs.{frame_of, OfPipe};
 ghost use Rattle.dev_core.specs.Lines.{frames_of};
 
+use crate::behind::{is_due, is_later, is_up_to_date};
 use crate::desk::Desk;
 use crate::entry::{Entry, NextStep};
 use crate::frame::Frame;
@@ -33,7 +35,7 @@ const JOBS: usize = 2;
 #[derive(Drop)]
 pub struct DeskState {
     subject: Arc<Subject>,
-    changes: u32,
+    step_count: u32,
     journal: Roomy<Entry>,
     frames: Roomy<Frame>,
     desk: Desk,
@@ -47,7 +49,7 @@ impl Model for DeskState {
 
     ghost view = { λ s. record { subject = arc_value s.subject; journal = s.journal.items } };
 
-    ghost invariant = { λ s. Keeps (arc_value s.subject) s.changes s.journal s.frames s.desk };
+    ghost invariant = { λ s. Keeps (arc_value s.subject) s.step_count s.journal s.frames s.desk };
 }
 
 impl DeskState {
@@ -55,12 +57,12 @@ impl DeskState {
     pub fn start(alloc: Global, subject: Arc<Subject>) -> Result<DeskState, AllocError>
         ensures { IfOk result (λ s. s ≡ record { subject = arc_value subject; journal = [] }) }
     {
-        let changes = subject.script().changes();
+        let step_count = subject.script().step_count();
         let mut journal = Roomy::new(alloc);
         journal.make_room(1)?;
         Ok(DeskState {
             subject,
-            changes,
+            step_count,
             journal,
             frames: Roomy::new(alloc),
             desk: Desk::start(),
@@ -76,7 +78,7 @@ impl DeskState {
     /// The number of changes so far.
     pub fn moment(&self) -> u32
         ensures moment { result ≡ (now self.now).moment }
-        ensures within { result ≤ length self.now.subject.script }
+        ensures within { result ≤ changes self.now.subject.script }
     {
         self.desk.moment
     }
@@ -103,7 +105,7 @@ impl DeskState {
         if self.desk.closed {
             return NextStep::Closed;
         }
-        if self.desk.steps < self.changes {
+        if self.desk.steps < self.step_count {
             return NextStep::Step {
                 number: self.desk.steps + 1,
             };
@@ -116,7 +118,7 @@ impl DeskState {
         ensures { IsTrue result ↔ IsDueJob self.now.subject.script (now self.now) name }
     {
         match name {
-            JobName::Pipe(pipe) => self.desk.is_behind(pipe),
+            JobName::Pipe(pipe) => is_due(self.subject.script(), self.desk, pipe),
             JobName::Ticket(_) => false,
         }
     }
@@ -126,7 +128,9 @@ impl DeskState {
         ensures { IsTrue result ↔ OfPipe job.now.name (λ p. Later self.now.subject.script p job.now.moment (now self.now).moment) }
     {
         match job.name() {
-            JobName::Pipe(_) => job.moment() < self.desk.moment,
+            JobName::Pipe(pipe) => {
+                is_later(self.subject.script(), pipe, job.moment(), self.desk.moment)
+            }
             JobName::Ticket(_) => false,
         }
     }
@@ -135,10 +139,13 @@ impl DeskState {
     pub fn complete(&self) -> bool
         ensures { IsTrue result ↔ IsComplete self.now.subject.script (now self.now) }
     {
-        if !self.desk.closed || self.desk.steps != self.changes {
+        if !self.desk.closed || self.desk.steps != self.step_count {
             return false;
         }
-        self.desk.is_reached(Pipe::Full)
+        if !self.desk.is_free(Pipe::Full) {
+            return false;
+        }
+        is_up_to_date(self.subject.script(), self.desk, Pipe::Full)
     }
 
     /// Makes the next step, a change of the picture.
@@ -166,16 +173,17 @@ impl DeskState {
     }
 
     /// Gives the job of a pipe that is due to a worker that has none, at the present moment.
-    pub fn take_pipe(&mut self, _alloc: Global, pipe: Pipe, worker: u32) -> Result<Job, AllocError>
+    pub fn take_pipe(&mut self, alloc: Global, pipe: Pipe, worker: u32) -> Result<Job, AllocError>
         requires { May self.old.subject.script (now self.old) (entry.Took pipe worker (now self.old).moment) }
         ensures ok { OnOk result (self.new ≡ with_entry self.old (entry.Took pipe worker (now self.old).moment)) }
         ensures job { IfOk result (λ j. j ≡ record { subject = self.old.subject; name = pipe_job pipe; worker = worker; moment = (now self.old).moment }) }
         ensures err { OnErr result (self.new ≡ self.old) }
     {
         let subject = Arc::try_clone(&self.subject)?;
+        let moment = self.desk.moment;
+        let history = subject.script().history_at(alloc, moment)?;
         self.journal.make_room(ROOM)?;
         self.frames.make_room(JOBS)?;
-        let moment = self.desk.moment;
         let entry = Entry::Took {
             pipe,
             worker,
@@ -183,18 +191,20 @@ impl DeskState {
         };
         self.journal.add(entry);
         self.desk = self.desk.next(entry);
-        Ok(Job::of(subject, JobName::Pipe(pipe), worker, moment))
+        Ok(Job::of(subject, JobName::Pipe(pipe), worker, moment, history))
     }
 
     /// Lets a worker begin its job anew at the present moment, where a change after the job's moment
     /// concerns its pipe. The job is a pipe's, and of this desk's subject.
-    pub fn restart(&mut self, _alloc: Global, job: &mut Job) -> Result<(), AllocError>
+    pub fn restart(&mut self, alloc: Global, job: &mut Job) -> Result<(), AllocError>
         requires subject { job.old.subject ≡ self.old.subject }
         requires row { OfPipe job.old.name (λ p. IsSuperseded self.old.subject.script (now self.old) p job.old.worker job.old.moment) }
         ensures ok { OnOk result (OfPipe job.old.name (λ p. self.new ≡ with_entry self.old (entry.Restarted p job.old.worker (now self.old).moment))) }
         ensures job { OnOk result (job.new ≡ record job.old { moment = (now self.old).moment }) }
         ensures err { OnErr result ((self.new ≡ self.old) × (job.new ≡ job.old)) }
     {
+        let script = self.subject.script();
+        let history = script.history_at(alloc, self.desk.moment)?;
         self.journal.make_room(ROOM)?;
         let entry = Entry::Restarted {
             pipe: job.pipe(),
@@ -203,7 +213,7 @@ impl DeskState {
         };
         self.journal.add(entry);
         self.desk = self.desk.next(entry);
-        job.begin_anew(self.desk.moment);
+        job.begin_anew(self.desk.moment, history);
         Ok(())
     }
 

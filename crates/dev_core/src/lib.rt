@@ -5,6 +5,8 @@
 //! its *journal*, and what the desk is follows from the journal alone.
 #![tactic(auto)]
 
+mod behind;
+mod built;
 mod desk;
 mod desk_state;
 mod entry;
@@ -12,16 +14,15 @@ mod frame;
 mod job;
 mod room;
 mod showing;
-mod source;
 mod subject;
 #[cfg(test)]
 mod tests;
 
+pub use built::is_built;
 pub use desk_state::DeskState;
 pub use entry::{Entry, NextStep};
 pub use frame::Frame;
 pub use job::Job;
 pub use room::Roomy;
-pub use showing::{make_frame, shown_bytes};
-pub use source::Source;
+pub use showing::make_frame;
 pub use subject::Subject;

@@ -1,15 +1,16 @@
 -- what the front of a file tells of the file
-use Rattle.std.proofs.Common.{◌≡◌, ℕ, List, take, Option, Some, None, refl, sym, subst, ◌≤◌}
+use Rattle.std.proofs.Common.{◌≡◌, ℕ, List, take, Option, Some, None, Ok, Err, refl, sym, subst, ◌≤◌}
 use Rattle.std.specs.Prelude.{option_map}
 use Rattle.px.specs.Picture.{Picture}
-use Rattle.params.specs.declared.settings.Exposure.{Exposure}
+use Rattle.edit_steps.specs.declared.fault.ScriptFault.{ScriptFault}
+use Rattle.edit_steps.specs.Script.{Recipe}
 use Rattle.outside.specs.Shelf.{Files, held}
 use Rattle.pnm.specs.Pnm.{IsPicture}
 use Rattle.pnm.proofs.FrontLemmas.{picture_of_front, picture_in_front}
-use Rattle.edit_script.specs.Reads.{script_of}
+use Rattle.edit_script.specs.Script.{script_of}
 use Rattle.stepped.specs.declared.event.Event.{Event}
 use Rattle.stepped.specs.Reads.{events_of}
-use Rattle.develop_session.specs.Files.{HasScript, HasNoScript, HasSource, HasNoSource, HasEvents, HasNoEvents}
+use Rattle.develop_session.specs.Files.{HasScript, HasBadScript, HasSource, HasNoSource, HasEvents, HasNoEvents}
 
 -- a file whose front was read stands there
 pub record HasFront (name : List ℕ) (fs : Files) (n : ℕ) (front : List ℕ) : Type 0 where
@@ -24,14 +25,14 @@ front_by (Some bytes) name fs n front is e = let same : take n bytes ≡ front =
 pub front_read : (name : List ℕ) (fs : Files) (n : ℕ) (front : List ℕ) → option_map (take n) (held fs name) ≡ Some front → HasFront name fs n front
 front_read name fs n front e = front_by (held fs name) name fs n front refl e
 
-pub has_script : (name : List ℕ) (fs : Files) (front : List ℕ) (steps : List Exposure) → ((text : List ℕ) → take 4194305 text ≡ front → script_of text ≡ Some steps)
-    → option_map (take 4194305) (held fs name) ≡ Some front → HasScript name fs steps
-has_script name fs front steps tells e = let file = front_read name fs 4194305 front e in
+pub has_script : (name : List ℕ) (fs : Files) (front : List ℕ) (script : Recipe) → ((text : List ℕ) → take 4194305 text ≡ front → script_of text ≡ Ok script)
+    → option_map (take 4194305) (held fs name) ≡ Some front → HasScript name fs script
+has_script name fs front script tells e = let file = front_read name fs 4194305 front e in
     record { bytes = file.bytes; stands = file.stands; reads = tells file.bytes file.front_is }
 
-pub has_no_script : (name : List ℕ) (fs : Files) (front : List ℕ) → ((text : List ℕ) → take 4194305 text ≡ front → script_of text ≡ None)
-    → option_map (take 4194305) (held fs name) ≡ Some front → HasNoScript name fs
-has_no_script name fs front tells e = let file = front_read name fs 4194305 front e in
+pub has_bad_script : (name : List ℕ) (fs : Files) (front : List ℕ) (fault : ScriptFault) → ((text : List ℕ) → take 4194305 text ≡ front → script_of text ≡ Err fault)
+    → option_map (take 4194305) (held fs name) ≡ Some front → HasBadScript name fault fs
+has_bad_script name fs front fault tells e = let file = front_read name fs 4194305 front e in
     record { bytes = file.bytes; stands = file.stands; reads = tells file.bytes file.front_is }
 
 pub has_events : (name : List ℕ) (fs : Files) (front : List ℕ) (events : List Event) → ((text : List ℕ) → take 4194305 text ≡ front → events_of text ≡ Some events)

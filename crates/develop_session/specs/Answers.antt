@@ -7,7 +7,8 @@ use Rattle.develop_session.specs.declared.status.Status.{Status}
 use Rattle.develop_session.specs.declared.status.Status.TheVariants as status
 use Rattle.develop_session.specs.Words.{Command}
 use Rattle.develop_session.specs.Texts.{developed_text, refusal_text}
-use Rattle.develop_session.specs.Files.{HasNoScript, HasSomeScript, HasNoSource}
+use Rattle.dev_core.specs.Built.{IsBuiltScript}
+use Rattle.develop_session.specs.Files.{HasBadScript, HasScriptThat, HasScriptBut, HasNoSource}
 use Rattle.develop_session.specs.Develop.{IsDeveloped, IsPutInPart}
 use Rattle.develop_session.specs.Failures.{Tells}
 
@@ -24,11 +25,12 @@ PutFails c (Some fs) new = IsPutInPart c fs new
 -- The run was refused. The two predicates say of a name that its count of faults rose in this call.
 abbrev pub Refuses : Command → Option Files → Option Files → (List ℕ → Type 0) → (List ℕ → Type 0) → Status → Type 0
 Refuses c old new read_rose put_rose status.OutOfMemory = new ≡ old
-Refuses c old new read_rose put_rose (status.NotYet input.Script) = (new ≡ old) × IfSome old (HasNoScript c.script)
-Refuses c old new read_rose put_rose (status.NotYet input.Source) = (new ≡ old) × IfSome old (λ fs. HasSomeScript c.script fs × HasNoSource c.source fs)
+Refuses c old new read_rose put_rose (status.ScriptRefused step reason) = (new ≡ old) × IfSome old (HasBadScript c.script (record { step = step; reason = reason }))
+Refuses c old new read_rose put_rose (status.NotYet input.Script) = (new ≡ old) × IfSome old (HasScriptBut IsBuiltScript c.script)
+Refuses c old new read_rose put_rose (status.NotYet input.Source) = (new ≡ old) × IfSome old (λ fs. HasScriptThat IsBuiltScript c.script fs × HasNoSource c.source fs)
 Refuses c old new read_rose put_rose (status.ShelfFault name) =
     ((name ≡ c.script) × read_rose name × (new ≡ old))
-    ⊎ (((name ≡ c.source) × read_rose name × (new ≡ old) × IfSome old (HasSomeScript c.script))
+    ⊎ (((name ≡ c.source) × read_rose name × (new ≡ old) × IfSome old (HasScriptThat IsBuiltScript c.script))
     ⊎ ((name ≡ c.out) × put_rose name × PutFails c old new))
 Refuses c old new read_rose put_rose _ = ⊥
 
@@ -41,6 +43,8 @@ Answers c old new read_rose put_rose said_rose was is status.OutOfMemory =
     ⊎ ((w h : ℕ) × Develops c old new w h × (is ≡ was))
 Answers c old new read_rose put_rose said_rose was is status.Usage = ⊥
 Answers c old new read_rose put_rose said_rose was is (status.EventsRefused place reason) = ⊥
+Answers c old new read_rose put_rose said_rose was is (status.ScriptRefused step reason) =
+    Refuses c old new read_rose put_rose (status.ScriptRefused step reason) × Tells (refusal_text (status.ScriptRefused step reason)) said_rose was is
 Answers c old new read_rose put_rose said_rose was is (status.NotYet what) =
     Refuses c old new read_rose put_rose (status.NotYet what) × Tells (refusal_text (status.NotYet what)) said_rose was is
 Answers c old new read_rose put_rose said_rose was is (status.ShelfFault name) =

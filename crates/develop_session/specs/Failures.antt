@@ -2,6 +2,7 @@
 use Rattle.std.specs.Prelude.{◌≡◌, ◌⊎◌, ℕ, List, Option, IfSome}
 use Rattle.outside.specs.Shelf.{Files, PutsInPart}
 use Rattle.outside.specs.Said.{Says, SaysInPart}
+use Rattle.edit_steps.specs.Script.{Recipe}
 use Rattle.dev_core.specs.Subject.{SubjectSeen}
 use Rattle.stepped.specs.declared.event.Event.{Event}
 use Rattle.stepped.specs.declared.fault.EventReason.TheVariants.{NotAllowed}
@@ -11,8 +12,8 @@ use Rattle.publish.specs.declared.put_end.PutEnd.TheVariants as put_end
 use Rattle.develop_session.specs.declared.status.Input.TheVariants as input
 use Rattle.develop_session.specs.declared.status.Status.{Status}
 use Rattle.develop_session.specs.declared.status.Status.TheVariants as status
-use Rattle.develop_session.specs.Files.{HasNoScript, HasSomeScript, HasNoSource, HasNoEvents}
-use Rattle.develop_session.specs.Replay.{HasLargeSource}
+use Rattle.develop_session.specs.Files.{HasBadScript, HasScriptThat, HasScriptBut, HasNoSource, HasNoEvents}
+use Rattle.develop_session.specs.Replay.{HasLargeSource, IsServed}
 use Rattle.develop_session.specs.Words.{Replay}
 
 -- a file failed: want of memory, or a fault of this name whose count rose
@@ -28,12 +29,20 @@ PutFailsAt name bytes rose old new status.OutOfMemory = new ≡ old
 PutFailsAt name bytes rose old new (status.ShelfFault at) = (at ≡ name) × rose × PutsInPart name bytes old new
 PutFailsAt name bytes rose old new _ = ⊥
 
--- the script wasn't read
-abbrev pub ScriptFails : List ℕ → Option Files → Type 0 → Status → Type 0
-ScriptFails name old rose (status.NotYet input.Script) = IfSome old (HasNoScript name)
-ScriptFails name old rose status.OutOfMemory = Unit {0}
-ScriptFails name old rose (status.ShelfFault at) = (at ≡ name) × rose
-ScriptFails name old rose _ = ⊥
+-- the script wasn't read, or is one of which this doesn't hold
+abbrev pub ScriptFails : (Recipe → Type 0) → List ℕ → Option Files → Type 0 → Status → Type 0
+ScriptFails P name old rose (status.ScriptRefused step reason) = IfSome old (HasBadScript name (record { step = step; reason = reason }))
+ScriptFails P name old rose (status.NotYet input.Script) = IfSome old (HasScriptBut P name)
+ScriptFails P name old rose status.OutOfMemory = Unit {0}
+ScriptFails P name old rose (status.ShelfFault at) = (at ≡ name) × rose
+ScriptFails P name old rose _ = ⊥
+
+-- the text of a script wasn't read
+abbrev pub ReadFails : List ℕ → Option Files → Type 0 → Status → Type 0
+ReadFails name old rose (status.ScriptRefused step reason) = IfSome old (HasBadScript name (record { step = step; reason = reason }))
+ReadFails name old rose status.OutOfMemory = Unit {0}
+ReadFails name old rose (status.ShelfFault at) = (at ≡ name) × rose
+ReadFails name old rose _ = ⊥
 
 -- the source wasn't read
 abbrev pub SourceFails : List ℕ → Option Files → Type 0 → Status → Type 0
@@ -53,12 +62,13 @@ SmallSourceFails name old rose status.OutOfMemory = Unit {0}
 SmallSourceFails name old rose (status.ShelfFault at) = (at ≡ name) × rose
 SmallSourceFails name old rose _ = ⊥
 
--- the script or the source wasn't read
+-- the script or the source wasn't read, or isn't served
 abbrev pub SubjectFails : Replay → Option Files → (List ℕ → Type 0) → Status → Type 0
-SubjectFails c old rose (status.NotYet input.Script) = IfSome old (HasNoScript c.script)
-SubjectFails c old rose (status.NotYet input.Source) = IfSome old (λ fs. HasSomeScript c.script fs × HasNoSmallSource c.source fs)
+SubjectFails c old rose (status.ScriptRefused step reason) = IfSome old (HasBadScript c.script (record { step = step; reason = reason }))
+SubjectFails c old rose (status.NotYet input.Script) = IfSome old (HasScriptBut IsServed c.script)
+SubjectFails c old rose (status.NotYet input.Source) = IfSome old (λ fs. HasScriptThat IsServed c.script fs × HasNoSmallSource c.source fs)
 SubjectFails c old rose status.OutOfMemory = Unit {0}
-SubjectFails c old rose (status.ShelfFault name) = ((name ≡ c.script) × rose name) ⊎ ((name ≡ c.source) × rose name × IfSome old (HasSomeScript c.script))
+SubjectFails c old rose (status.ShelfFault name) = ((name ≡ c.script) × rose name) ⊎ ((name ≡ c.source) × rose name × IfSome old (HasScriptThat IsServed c.script))
 SubjectFails c old rose _ = ⊥
 
 -- the events weren't read

@@ -1,28 +1,33 @@
 -- what stands under the names of a command
-use Rattle.std.specs.Prelude.{◌≡◌, ℕ, List, Some, None}
-use Rattle.params.specs.declared.settings.Exposure.{Exposure}
+use Rattle.std.specs.Prelude.{◌≡◌, ℕ, List, Some, None, Ok, Err}
 use Rattle.px.specs.Picture.{Picture}
 use Rattle.pnm.specs.Pnm.{IsPicture}
 use Rattle.outside.specs.Shelf.{Files, held}
-use Rattle.edit_script.specs.Reads.{script_of}
+use Rattle.edit_steps.specs.declared.fault.ScriptFault.{ScriptFault}
+use Rattle.edit_steps.specs.Script.{Recipe}
+use Rattle.edit_script.specs.Script.{script_of}
 use Rattle.stepped.specs.declared.event.Event.{Event}
 use Rattle.stepped.specs.Reads.{events_of}
 
--- a script stands under the name, with these steps
-pub record HasScript (name : List ℕ) (fs : Files) (steps : List Exposure) : Type 0 where
+-- a script stands under the name
+pub record HasScript (name : List ℕ) (fs : Files) (script : Recipe) : Type 0 where
   pub bytes : List ℕ
   pub stands : held fs name ≡ Some bytes
-  pub reads : script_of bytes ≡ Some steps
+  pub reads : script_of bytes ≡ Ok script
 
--- the file under the name hasn't the first form of a script
-pub record HasNoScript (name : List ℕ) (fs : Files) : Type 0 where
+-- the file under the name is no script, and this is its first fault
+pub record HasBadScript (name : List ℕ) (fault : ScriptFault) (fs : Files) : Type 0 where
   pub bytes : List ℕ
   pub stands : held fs name ≡ Some bytes
-  pub reads : script_of bytes ≡ None
+  pub reads : script_of bytes ≡ Err fault
 
--- some script stands there
-abbrev pub HasSomeScript : List ℕ → Files → Type 0
-HasSomeScript name fs = (steps : List Exposure) × HasScript name fs steps
+-- a script stands there, of which this holds
+abbrev pub HasScriptThat : (Recipe → Type 0) → List ℕ → Files → Type 0
+HasScriptThat P name fs = (script : Recipe) × HasScript name fs script × P script
+
+-- a script stands there, of which this doesn't hold
+abbrev pub HasScriptBut : (Recipe → Type 0) → List ℕ → Files → Type 0
+HasScriptBut P name fs = (script : Recipe) × HasScript name fs script × (P script → ⊥)
 
 -- the file under the name is this picture
 pub record HasSource (name : List ℕ) (fs : Files) (q : Picture) : Type 0 where

@@ -1,8 +1,14 @@
 -- what `stepped` makes of its files
-use Rattle.std.specs.Prelude.{◌≡◌, ◌↔◌, ℕ, ◌≤◌, List, length, IsTrue, Option, IfSome}
+use Rattle.std.specs.Prelude.{◌≡◌, ◌↔◌, ℕ, ◌≤◌, ⊤, List, length, IsTrue, Option, IfSome}
+use Rattle.std.specs.List.{All}
 use Rattle.px.specs.Picture.{Picture}
 use Rattle.px.specs.Cut.{picture_of}
 use Rattle.outside.specs.Shelf.{Files}
+use Rattle.edit_steps.specs.declared.step.Step.{Step}
+use Rattle.edit_steps.specs.declared.step.Step.TheVariants as steps
+use Rattle.edit_steps.specs.Script.{Recipe}
+use Rattle.edit_script.specs.Settings.{start_view}
+use Rattle.dev_core.specs.Built.{IsBuiltScript}
 use Rattle.dev_core.specs.Desk.{IsComplete}
 use Rattle.dev_core.specs.Lines.{Line, lines}
 use Rattle.dev_core.specs.Subject.{SubjectSeen}
@@ -20,9 +26,20 @@ pub record IsSmall (q : Picture) : Type 0 where
   pub wide : q.w ≤ 720
   pub high : q.h ≤ 480
 
+abbrev pub IsEdit : Step → Type 0
+IsEdit (steps.Edit edit) = ⊤
+IsEdit _ = ⊥
+
+-- a replay serves the script so far: a run can make each picture of it, each step is an edit, and the view is the default
+pub record IsServed (script : Recipe) : Type 0 where
+  pub built : IsBuiltScript script
+  pub edits : All IsEdit script.steps
+  pub view : script.settings.view ≡ start_view
+
 -- script and source stand there, and this is their subject
 pub record HasSubject (c : Replay) (fs : Files) (s : SubjectSeen) : Type 0 where
   pub script : HasScript c.script fs s.script
+  pub served : IsServed s.script
   pub source : HasSource c.source fs (picture_of s.source)
   pub small : IsSmall (picture_of s.source)
 

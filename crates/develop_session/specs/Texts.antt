@@ -1,7 +1,8 @@
 -- the lines that are said, and the numbers of the statuses
 use Rattle.std.specs.Prelude.{ℕ, Bool, true, false, List, [], ◌++◌, codes}
 use Rattle.std.specs.Fmt.{decimal}
-use Rattle.stepped.specs.Texts.{reason_text}
+use Rattle.edit_steps.specs.Texts as script
+use Rattle.stepped.specs.Texts as events
 use Rattle.develop_session.specs.declared.status.Input.TheVariants as input
 use Rattle.develop_session.specs.declared.status.Status.{Status}
 use Rattle.develop_session.specs.declared.status.Status.TheVariants as status
@@ -10,6 +11,7 @@ use Rattle.develop_session.specs.declared.tally.Tally.{Tally}
 abbrev pub code_of : Status → ℕ
 code_of status.Ok = 0
 code_of status.Usage = 1
+code_of (status.ScriptRefused step reason) = 2
 code_of (status.EventsRefused place reason) = 4
 code_of (status.ShelfFault name) = 5
 code_of status.SaidFault = 6
@@ -32,7 +34,8 @@ replayed_text t = codes "events " ++ (decimal t.events ++ (codes " lines " ++ (d
 abbrev pub refusal_text : Status → List ℕ
 refusal_text status.Usage = codes "usage: devcore develop SCRIPT SOURCE OUT, stepped SCRIPT SOURCE EVENTS, session SCRIPT SOURCE, generate N\n"
 refusal_text (status.ShelfFault name) = codes "shelf fault: " ++ (name ++ codes "\n")
-refusal_text (status.EventsRefused place reason) = codes "events refused at event " ++ (decimal place ++ (codes ": " ++ (reason_text reason ++ codes "\n")))
+refusal_text (status.ScriptRefused step reason) = codes "script refused at step " ++ (decimal step ++ (codes ": " ++ (script.reason_text reason ++ codes "\n")))
+refusal_text (status.EventsRefused place reason) = codes "events refused at event " ++ (decimal place ++ (codes ": " ++ (events.reason_text reason ++ codes "\n")))
 refusal_text status.OutOfMemory = codes "out of memory\n"
 refusal_text (status.NotYet input.Script) = codes "not yet: script\n"
 refusal_text (status.NotYet input.Source) = codes "not yet: source\n"

@@ -1,7 +1,7 @@
 //! `develop`: one picture of one history, from bytes to bytes.
 ghost use Rattle.std.specs.Prelude.{◌≡◌, IfOk, IfErr};
 ghost use Rattle.px.specs.Cut.{picture_of};
-ghost use Rattle.dev_core.specs.Subject.{IsSource};
+ghost use Rattle.dev_core.specs.Built.{IsBuiltScript};
 ghost use Rattle.outside.specs.Faults.{Rose};
 ghost use Rattle.publish.specs.Files.{RoseAt};
 ghost use Rattle.develop_session.specs.Develop.{out_bytes};
@@ -13,12 +13,11 @@ ghost use Rattle.develop_session.specs.Words.{Command};
 
 use crate::command::Names;
 use crate::devices::{put_file, say_line, tell};
-use crate::inputs::{SOURCE_FRONT, read_script, read_source};
+use crate::inputs::{SOURCE_FRONT, read_built_script, read_source};
 use crate::status::Status;
-use dev_core::shown_bytes;
-use edit_script::Script;
+use edit_steps::Script;
 use outside::{Said, Shelf};
-use px::Plane;
+use pipe_nodes::{Source, shown_bytes};
 use std::alloc::{AllocError, Global};
 use std::thread::Threads;
 
@@ -27,12 +26,13 @@ fn develop_bytes<R: Threads + Sync>(
     rt: &R,
     alloc: Global,
     script: &Script,
-    plane: &Plane,
+    source: &Source,
 ) -> Result<Vec<u8>, AllocError>
-    requires { IsSource plane.now }
-    ensures { IfOk result (λ b. b.items ≡ out_bytes script.now (picture_of plane.now)) }
+    requires { IsBuiltScript script.now }
+    ensures { IfOk result (λ b. b.items ≡ out_bytes script.now (picture_of source.now)) }
 {
-    shown_bytes(rt, alloc, plane, script.exposure_at(script.changes()))
+    let history = script.history_at(alloc, script.changes())?;
+    shown_bytes(rt, alloc, source, &history, script.settings().depth)
 }
 
 // Reads, develops and puts; the sides of the picture.
@@ -45,11 +45,11 @@ fn develop<R: Threads + Sync, S: Shelf>(
     ensures ok { IfOk result (λ sides. Develops (command names.entry) (S.files shelf.old) (S.files shelf.new) sides.0 sides.1) }
     ensures cause { IfErr result (Refuses (command names.entry) (S.files shelf.old) (S.files shelf.new) (RoseAt (S.read_faults shelf.old) (S.read_faults shelf.new)) (RoseAt (S.put_faults shelf.old) (S.put_faults shelf.new))) }
 {
-    let script = read_script(alloc, shelf, names.script)?;
-    let plane = read_source(alloc, shelf, names.source, SOURCE_FRONT)?;
-    let bytes = develop_bytes(rt, alloc, &script, &plane)?;
+    let script = read_built_script(alloc, shelf, names.script)?;
+    let source = Source::of(read_source(alloc, shelf, names.source, SOURCE_FRONT)?);
+    let bytes = develop_bytes(rt, alloc, &script, &source)?;
     put_file(alloc, shelf, names.out, bytes.as_slice())?;
-    Ok(plane.sides())
+    Ok(source.plane().sides())
 }
 
 // Says the line of a developed picture.

@@ -4,12 +4,15 @@ ghost use Rattle.px.specs.declared.kind.PlaneKind.TheVariants.{Rgb};
 ghost use Rattle.px.specs.Cut.{IsWhole, picture_of};
 ghost use Rattle.outside.specs.Faults.{Rose, NoneFalls};
 ghost use Rattle.develop_session.specs.Files.{HasScript, HasSource, HasEvents};
-ghost use Rattle.develop_session.specs.Replay.{IsSmall};
-ghost use Rattle.develop_session.specs.Failures.{ScriptFails, SourceFails, SmallSourceFails, EventsFail};
+ghost use Rattle.dev_core.specs.Built.{IsBuiltScript};
+ghost use Rattle.develop_session.specs.Replay.{IsServed, IsSmall};
+ghost use Rattle.develop_session.specs.Failures.{ReadFails, ScriptFails, SourceFails, SmallSourceFails, EventsFail};
 
 use crate::devices::read_file;
+use crate::served::is_served;
 use crate::status::{Input, Status};
-use edit_script::{Script, ScriptEnd};
+use dev_core::is_built;
+use edit_steps::{Script, ScriptEnd};
 use outside::Shelf;
 use pnm::PnmEnd;
 use px::Plane;
@@ -22,14 +25,10 @@ const SCRIPT_FRONT: usize = 4_194_305;
 /// How many bytes of a source are looked at.
 pub(crate) const SOURCE_FRONT: usize = 268_435_456;
 
-/// The script under a name.
-pub(crate) fn read_script<S: Shelf>(
-    alloc: Global,
-    shelf: &mut S,
-    name: &str,
-) -> Result<Script, Status>
+// The script under a name.
+fn read_script<S: Shelf>(alloc: Global, shelf: &mut S, name: &str) -> Result<Script, Status>
     ensures script { IfOk result (λ s. IfSome (S.files shelf.old) (λ fs. HasScript name.now fs s)) }
-    ensures cause { IfErr result (ScriptFails name.now (S.files shelf.old) (Rose (S.read_faults shelf.old name.now) (S.read_faults shelf.new name.now))) }
+    ensures cause { IfErr result (ReadFails name.now (S.files shelf.old) (Rose (S.read_faults shelf.old name.now) (S.read_faults shelf.new name.now))) }
     ensures unchanged { S.files shelf.new ≡ S.files shelf.old }
     ensures reads { NoneFalls (S.read_faults shelf.old) (S.read_faults shelf.new) }
     ensures puts { NoneFalls (S.put_faults shelf.old) (S.put_faults shelf.new) }
@@ -37,11 +36,56 @@ pub(crate) fn read_script<S: Shelf>(
     let bytes = read_file(alloc, shelf, name, SCRIPT_FRONT)?;
     match edit_script::read(alloc, bytes.as_slice()) {
         Ok(script) => Ok(script),
-        Err(ScriptEnd::Fault(_)) => Err(Status::NotYet {
-            what: Input::Script,
+        Err(ScriptEnd::Fault(fault)) => Err(Status::ScriptRefused {
+            step: fault.step,
+            reason: fault.reason,
         }),
         Err(ScriptEnd::Memory) => Err(Status::OutOfMemory),
     }
+}
+
+/// The script under a name, where a run can make each picture of it.
+pub(crate) fn read_built_script<S: Shelf>(
+    alloc: Global,
+    shelf: &mut S,
+    name: &str,
+) -> Result<Script, Status>
+    ensures script { IfOk result (λ s. IfSome (S.files shelf.old) (λ fs. HasScript name.now fs s)) }
+    ensures built { IfOk result IsBuiltScript }
+    ensures cause { IfErr result (ScriptFails IsBuiltScript name.now (S.files shelf.old) (Rose (S.read_faults shelf.old name.now) (S.read_faults shelf.new name.now))) }
+    ensures unchanged { S.files shelf.new ≡ S.files shelf.old }
+    ensures reads { NoneFalls (S.read_faults shelf.old) (S.read_faults shelf.new) }
+    ensures puts { NoneFalls (S.put_faults shelf.old) (S.put_faults shelf.new) }
+{
+    let script = read_script(alloc, shelf, name)?;
+    if !is_built(&script) {
+        return Err(Status::NotYet {
+            what: Input::Script,
+        });
+    }
+    Ok(script)
+}
+
+/// The script under a name, where a replay serves it.
+pub(crate) fn read_served_script<S: Shelf>(
+    alloc: Global,
+    shelf: &mut S,
+    name: &str,
+) -> Result<Script, Status>
+    ensures script { IfOk result (λ s. IfSome (S.files shelf.old) (λ fs. HasScript name.now fs s)) }
+    ensures served { IfOk result IsServed }
+    ensures cause { IfErr result (ScriptFails IsServed name.now (S.files shelf.old) (Rose (S.read_faults shelf.old name.now) (S.read_faults shelf.new name.now))) }
+    ensures unchanged { S.files shelf.new ≡ S.files shelf.old }
+    ensures reads { NoneFalls (S.read_faults shelf.old) (S.read_faults shelf.new) }
+    ensures puts { NoneFalls (S.put_faults shelf.old) (S.put_faults shelf.new) }
+{
+    let script = read_script(alloc, shelf, name)?;
+    if !is_served(&script) {
+        return Err(Status::NotYet {
+            what: Input::Script,
+        });
+    }
+    Ok(script)
 }
 
 /// The picture at the front of the file under a name.

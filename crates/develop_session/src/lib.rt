@@ -8,6 +8,7 @@ mod inputs;
 mod replay;
 #[cfg(test)]
 mod replay_tests;
+mod served;
 mod status;
 mod tally;
 #[cfg(test)]

@@ -4,6 +4,7 @@ ghost use Rattle.std.specs.Arc.{arc_value};
 ghost use Rattle.px.specs.declared.kind.PlaneKind.TheVariants.{Rgb};
 ghost use Rattle.px.specs.Cut.{IsWhole};
 ghost use Rattle.outside.specs.Faults.{Rose, NoneFalls};
+ghost use Rattle.dev_core.specs.Built.{IsBuiltScript};
 ghost use Rattle.dev_core.specs.Desk.{IsComplete};
 ghost use Rattle.dev_core.specs.Lines.{lines};
 ghost use Rattle.stepped.specs.Outcome.{AllAllowed, start_of};
@@ -18,12 +19,13 @@ ghost use Rattle.develop_session.specs.Words.{Replay};
 
 use crate::command::ReplayNames;
 use crate::devices::{say_line, tell};
-use crate::inputs::{SOURCE_FRONT, read_events, read_script, read_small_source};
+use crate::inputs::{SOURCE_FRONT, read_events, read_served_script, read_small_source};
 use crate::status::Status;
 use crate::tally::{Tally, replayed_line};
-use dev_core::{Source, Subject};
-use edit_script::Script;
+use dev_core::Subject;
+use edit_steps::Script;
 use outside::{Said, Shelf};
+use pipe_nodes::Source;
 use publish::write_all;
 use px::Plane;
 use std::alloc::{AllocError, Global};
@@ -34,6 +36,7 @@ use stepped::{Event, EventReason, Outcome, StepEnd, stepped};
 fn subject_of(alloc: Global, script: Script, plane: Plane) -> Result<Arc<Subject>, AllocError>
     requires rgb { plane.kind ≡ Rgb }
     requires whole { IsWhole plane }
+    requires built { IsBuiltScript script }
     ensures { IfOk result (λ s. arc_value s ≡ record { source = plane; script = script }) }
 {
     let source = Arc::new(alloc, Source::of(plane)).map_err(AllocError::from)?;
@@ -52,7 +55,7 @@ fn read_subject<S: Shelf>(
     ensures reads { NoneFalls (S.read_faults shelf.old) (S.read_faults shelf.new) }
     ensures puts { NoneFalls (S.put_faults shelf.old) (S.put_faults shelf.new) }
 {
-    let script = read_script(alloc, shelf, names.script)?;
+    let script = read_served_script(alloc, shelf, names.script)?;
     let plane = read_small_source(alloc, shelf, names.source, SOURCE_FRONT)?;
     Ok(subject_of(alloc, script, plane)?)
 }

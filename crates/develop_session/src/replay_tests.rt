@@ -132,5 +132,7 @@ fn what_is_no_list_of_built_events_waits(rt: HostRuntime) -> Result<(), Fail> {
     assert!(rt; answers(&rt, alloc, &mut shelf, 8, line)?);
     shelf.place("P", wide_source(alloc)?.as_slice())?;
     assert!(rt; answers(&rt, alloc, &mut shelf, 8, "not yet: source\n")?);
+    shelf.place("S", b"{\"steps\":[{\"do\":\"settle\"}]}")?;
+    assert!(rt; answers(&rt, alloc, &mut shelf, 8, "not yet: script\n")?);
     Ok(())
 }

@@ -1,6 +1,7 @@
 ghost use Rattle.std.specs.Prelude.{◌≡◌, IfOk, string_bytes};
 ghost use Rattle.develop_session.specs.Texts.{code_of, refusal_text};
 
+use edit_steps::Reason;
 use outside::Name;
 use publish::PutEnd;
 use std::alloc::{AllocError, Global};
@@ -20,6 +21,8 @@ pub enum Status {
     Ok,
     /// The words are no command.
     Usage,
+    /// The script is refused: all of it at step 0, or the step with this number, counted from 1.
+    ScriptRefused { step: u32, reason: Reason },
     /// The event in this place, counted from 1, is refused.
     EventsRefused { place: u32, reason: EventReason },
     /// A fault of the shelf at this name.
@@ -62,6 +65,7 @@ impl Status {
         match self {
             Status::Ok => 0,
             Status::Usage => 1,
+            Status::ScriptRefused { .. } => 2,
             Status::EventsRefused { .. } => 4,
             Status::ShelfFault { .. } => 5,
             Status::SaidFault => 6,
@@ -80,6 +84,9 @@ pub(crate) fn refusal_line(alloc: Global, status: &Status) -> Result<String, All
             alloc,
             "usage: devcore develop SCRIPT SOURCE OUT, stepped SCRIPT SOURCE EVENTS, session SCRIPT SOURCE, generate N\n",
         ),
+        Status::ScriptRefused { step, reason } => {
+            format!(in alloc; "script refused at step {step}: {reason}\n")
+        }
         Status::EventsRefused { place, reason } => {
             format!(in alloc; "events refused at event {place}: {reason}\n")
         }

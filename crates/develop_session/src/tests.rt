@@ -66,7 +66,37 @@ fn what_is_not_built_yet_is_refused(rt: HostRuntime) -> Result<(), Fail> {
     let spaced = b"P6 1 1 255\n\x10\x20\x30".as_slice();
     assert!(rt; answers(&rt, alloc, none, spaced, 8, "not yet: source\n", None)?);
     assert!(rt; answers(&rt, alloc, crop, picture, 8, "not yet: script\n", None)?);
-    assert!(rt; answers(&rt, alloc, "{", picture, 8, "not yet: script\n", None)?);
+    Ok(())
+}
+
+// Black -1 and the gain 16 turn white into 1,048,576, which is cut to 1,048,575, and 32,896 into 526,352. The
+// second instance divides by 16: white stands again, and 32,897 is written as 128.
+#[test]
+fn instances_work_one_after_the_other(rt: HostRuntime) -> Result<(), Fail> {
+    let alloc = rt.alloc();
+    let script = "{\"settings\":{\"depth\":8},\"steps\":[
+{\"do\":\"set\",\"module\":\"exposure\",\"params\":{\"black\":-1,\"gain\":65536}},
+{\"do\":\"add\",\"module\":\"exposure\",\"instance\":1,\"place\":6},{\"do\":\"settle\"},
+{\"do\":\"set\",\"module\":\"exposure\",\"instance\":1,\"params\":{\"black\":0,\"gain\":256}}]}";
+    let picture = b"P6\n1 1\n255\n\xff\xff\x80".as_slice();
+    assert!(rt; answers(&rt, alloc, script, picture, 0, LINE, Some(picture))?);
+    Ok(())
+}
+
+#[test]
+fn a_script_is_refused_with_its_step_and_reason(rt: HostRuntime) -> Result<(), Fail> {
+    let alloc = rt.alloc();
+    let picture = b"P6\n1 1\n255\n\x10\x20\x30".as_slice();
+    let text = "script refused at step 0: text\n";
+    let order = "script refused at step 1: order rule\n";
+    let gain = "script refused at step 2: param gain 70000\n";
+    let moved =
+        "{\"steps\":[{\"do\":\"move\",\"module\":\"exposure\",\"instance\":0,\"place\":2}]}";
+    let high = "{\"steps\":[{\"do\":\"compress\"},
+{\"do\":\"set\",\"module\":\"exposure\",\"params\":{\"black\":0,\"gain\":70000}}]}";
+    assert!(rt; answers(&rt, alloc, "{", picture, 2, text, None)?);
+    assert!(rt; answers(&rt, alloc, moved, picture, 2, order, None)?);
+    assert!(rt; answers(&rt, alloc, high, picture, 2, gain, None)?);
     Ok(())
 }
 

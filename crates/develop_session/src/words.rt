@@ -21,11 +21,11 @@ use std::thread::Threads;
 
 /// Runs the command that the words after the program's name are, over a shelf of files and an output.
 ///
-/// `develop SCRIPT SOURCE OUT` develops the picture SOURCE by the last exposure that SCRIPT sets, puts
-/// it at OUT and says `developed W H`. `stepped SCRIPT SOURCE EVENTS` replays the events, puts the files
-/// of the journal that they make, and says `events E lines L` with `complete` or `open`. Other words are
-/// answered by the usage line. A refusal says its line where the output takes it, and nothing is put
-/// before the run has ended.
+/// `develop SCRIPT SOURCE OUT` develops the picture SOURCE by what is active in the history after the
+/// last change of SCRIPT, puts it at OUT at the depth of its settings, and says `developed W H`.
+/// `stepped SCRIPT SOURCE EVENTS` replays the events, puts the files of the journal that they make, and
+/// says `events E lines L` with `complete` or `open`. Other words are answered by the usage line. A
+/// refusal says its line where the output takes it, and nothing is put before the run has ended.
 pub fn run_words<R: Threads + Sync, S: Shelf, O: Said>(
     rt: &R,
     alloc: Global,

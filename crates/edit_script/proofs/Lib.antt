@@ -1,1 +1,13 @@
+pub mod ListLemmas
+pub mod RangeLemmas
+pub mod SlotLemmas
+pub mod OpeningLemmas
 pub mod StepLemmas
+pub mod ReadLemmas
+pub mod TypedLemmas
+pub mod AgainLemmas
+pub mod ScriptAgainLemmas
+pub mod TextLemmas
+pub mod WriteLemmas
+pub mod KeptLemmas
+pub mod BlameLemmas

@@ -1,3 +1,11 @@
-pub mod Steps
+pub mod Binds
+pub mod Parts
+pub mod Settings
+pub mod Item
+pub mod Step
+pub mod Opening
+pub mod Script
 pub mod Reads
-pub mod Read
+pub mod Seen
+pub mod Written
+pub mod Typed

@@ -1,50 +1,46 @@
--- the first form of a script: an object whose one key is `steps`, a list of steps that set the exposure
-use Rattle.std.specs.Prelude.{ℕ, suc, List, [], ◌∷◌, length, Bool, Option, Some, None, option_map, option_and_then, unwrap_or, false, codes, bytes_eq, nat_le, ◌&&◌, if◌then◌else◌}
-use Rattle.std.specs.Str.{is_utf8}
-use Rattle.std.specs.Result.{result_ok}
-use Rattle.serde_json.specs.Data.{Data, Items, no_items, item}
-use Rattle.serde_json.specs.Find.{get}
-use Rattle.serde_json.specs.Read as json
-use Rattle.params.specs.declared.settings.Exposure.{Exposure}
-use Rattle.params.specs.Form.{has_only, items_at, text_at, ◌>>=◌}
-use Rattle.params.specs.Read.{exposure_read}
+-- what the readers answer
+use Rattle.std.specs.Prelude.{◌≡◌, ℕ, Bool, true, false, Option, Some, None, Result, Ok, Err, ⊤}
+use Rattle.edit_steps.specs.declared.fault.ScriptFault.{ScriptFault}
+use Rattle.edit_steps.specs.declared.fault.ScriptEnd.{ScriptEnd}
+use Rattle.edit_steps.specs.declared.fault.ScriptEnd.TheVariants as ends
+use Rattle.history.specs.declared.fault.EditFault.{EditFault}
+use Rattle.history.specs.declared.fault.EditFault.TheVariants as faults
+use Rattle.edit_steps.specs.declared.fault.Reason.{Reason}
+use Rattle.edit_steps.specs.declared.fault.Reason.TheVariants as reasons
+use Rattle.edit_script.specs.declared.form_end.FormEnd.{FormEnd}
+use Rattle.edit_script.specs.declared.form_end.FormEnd.TheVariants.{Form, Memory}
+use Rattle.edit_script.specs.Script.{fault_at}
 
--- the text as a value
-abbrev pub text_of : List ℕ → Option Data
-text_of bytes = if is_utf8 bytes then json.read bytes else None
+-- what was returned, seen by `view`, is what the form gives, unless memory ran out
+abbrev pub IsFormed : {X Y : Type 0} → (X → Y) → Result X FormEnd → Option Y → Type 0
+IsFormed view (Ok x) form = form ≡ Some (view x)
+IsFormed view (Err Form) form = form ≡ None
+IsFormed view (Err Memory) form = ⊤
 
--- the key has this word
-abbrev pub says : List ℕ → List ℕ → Data → Bool
-says key word d = unwrap_or (option_map (λ s. bytes_eq s word) (text_at key d)) false
+-- what was returned, seen by `view`, is what reading gives, unless memory ran out
+abbrev pub IsRead : {X Y : Type 0} → (X → Y) → Result X ScriptEnd → Result Y ScriptFault → Type 0
+IsRead view (Ok x) read = read ≡ Ok (view x)
+IsRead view (Err (ends.Fault f)) read = read ≡ Err f
+IsRead view (Err ends.Memory) read = ⊤
 
--- settings of exposure within their ranges
-abbrev pub exposure_of : Data → Option Exposure
-exposure_of d = result_ok (exposure_read d)
+-- why nothing was read at a step where a form was asked for
+abbrev pub end_at : ℕ → FormEnd → ScriptEnd
+end_at step Form = ends.Fault (fault_at step reasons.Form)
+end_at step Memory = ends.Memory
 
--- one step: exactly `do` with "set", `module` with "exposure", and the settings under `params`
-unfoldable pub step_of : Data → Option Exposure
-step_of d = if has_only (codes "do" ∷ codes "module" ∷ codes "params" ∷ []) d && says (codes "do") (codes "set") d && says (codes "module") (codes "exposure") d
-    then option_and_then exposure_of (get (codes "params") d)
-    else None
+-- ---- values of an edit outside their ranges: a fault of parameters, never of the edit
 
-abbrev pub steps_of : Items → Option (List Exposure)
-steps_of no_items = Some []
-steps_of (item d ds) = do
-  e ← step_of d
-  es ← steps_of ds
-  Some (e ∷ es)
+abbrev pub is_bad_params : EditFault → Bool
+is_bad_params (faults.BadParams f) = true
+is_bad_params _ = false
 
-abbrev pub count_of : Items → ℕ
-count_of no_items = 0
-count_of (item d ds) = suc (count_of ds)
+abbrev pub is_bad_edit : Reason → Bool
+is_bad_edit (reasons.Edit f) = is_bad_params f
+is_bad_edit _ = false
 
--- at most 256 steps
-abbrev pub few_steps_of : Items → Option (List Exposure)
-few_steps_of items = if nat_le (count_of items) 256 then steps_of items else None
+abbrev pub HasNoBadParams : ScriptFault → Type 0
+HasNoBadParams f = is_bad_edit f.reason ≡ false
 
-unfoldable pub form_of : Data → Option (List Exposure)
-form_of d = if has_only (codes "steps" ∷ []) d then option_and_then few_steps_of (items_at (codes "steps") d) else None
-
--- the steps of a text of at most 4,194,304 bytes that has the first form
-abbrev pub script_of : List ℕ → Option (List Exposure)
-script_of bytes = if nat_le (length bytes) 4194304 then option_and_then form_of (text_of bytes) else None
+abbrev pub EndsWithoutBadParams : ScriptEnd → Type 0
+EndsWithoutBadParams (ends.Fault f) = HasNoBadParams f
+EndsWithoutBadParams ends.Memory = ⊤

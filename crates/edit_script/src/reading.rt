@@ -1,144 +1,123 @@
 //! A script from the bytes of its file.
-ghost use Rattle.std.specs.Prelude.{◌≡◌, ℕ, ◌+◌, ◌≤◌, List, length, take, IfOk, Err, None, map};
+ghost use Rattle.std.specs.Prelude.{◌≡◌, ℕ, List, take, IfOk, IfErr, option_map};
 ghost use Rattle.serde_json.specs.View.{view, items_view};
-ghost use Rattle.params.specs.declared.settings.Exposure.{Exposure};
-ghost use Rattle.edit_script.specs.Reads.{text_of, says, exposure_of, step_of, steps_of, few_steps_of, form_of, script_of};
-ghost use Rattle.edit_script.specs.Read.{Reads};
-ghost use Rattle.std.specs.List.{AllByRecursion};
-ghost use Rattle.edit_script.specs.Steps.{AreSteps, IsExposure};
+ghost use Rattle.json_form.specs.Text.{text_of as text_in};
+ghost use Rattle.edit_steps.specs.Ranges.{IsSettings, IsStepWithin};
+ghost use Rattle.edit_script.specs.Binds.{result_and_then};
+ghost use Rattle.edit_script.specs.Settings.{settings_in as settings_stated};
+ghost use Rattle.edit_script.specs.Step.{step_form as step_stated};
+ghost use Rattle.edit_script.specs.Script.{or_text, or_form, or_param, steps_in, step_behind, steps_behind, script_in, script_of};
+ghost use Rattle.edit_script.specs.Reads.{IsRead, EndsWithoutBadParams};
 
-use crate::fault::{Reason, ScriptEnd, ScriptFault};
-use crate::script::Script;
-use params::form::{has_only, items_at, text_at};
-use params::{Exposure, JsonEnd, Module, Params, of_json};
+use crate::faults::{end_at, fault_at};
+use crate::opening::opening_at;
+use crate::settings_form::settings_in;
+use crate::step_form::step_form;
+use edit_steps::{Draft, Reason, Script, ScriptEnd, Settings, Step};
+use json_form::{TextEnd, value_of};
+use params::form::{has_only, items_at};
 use serde_json::Value;
-use serde_json::error::Category;
 use std::alloc::Global;
 
-/// How many bytes a script has at most.
-const LONGEST: usize = 4_194_304;
-
-/// How many steps a script has at most.
-const MOST_STEPS: usize = 256;
-
-// A text or a value that hasn't the form.
-fn refused() -> ScriptEnd
-    ensures { Reads {X = List Exposure} (λ s. s) (Err result) None }
-{
-    ScriptEnd::Fault(ScriptFault {
-        step: 0,
-        reason: Reason::Form,
-    })
-}
-
 fn text_of(alloc: Global, bytes: &[u8]) -> Result<Value, ScriptEnd>
-    ensures { Reads view result (text_of bytes.now) }
+    ensures { IsRead view result (or_text (text_in bytes.now)) }
 {
-    match Value::from_slice(alloc, bytes) {
+    match value_of(alloc, bytes) {
         Ok(value) => Ok(value),
-        Err(refusal) => match refusal.classify() {
-            Category::Memory => Err(ScriptEnd::Memory),
-            _ => Err(refused()),
-        },
+        Err(TextEnd::TooLong) => Err(ScriptEnd::Fault(fault_at(0, Reason::TooLong))),
+        Err(TextEnd::Text) => Err(ScriptEnd::Fault(fault_at(0, Reason::Text))),
+        Err(TextEnd::Memory) => Err(ScriptEnd::Memory),
     }
 }
 
-// Whether the key has this word.
-fn says(value: &Value, key: &str, word: &str) -> bool
-    ensures { result ≡ says key.now word.now (view value.now) }
+// The list of the steps, of an object that has no keys but those of a script.
+fn steps_in(value: &Value) -> Option<&[Value]>
+    ensures { option_map (λ v. items_view v.now) result ≡ steps_in (view value.now) }
 {
-    match text_at(value, key) {
-        Some(text) => text == word,
-        None => false,
+    if !has_only(value, &["settings", "history", "steps"]) {
+        return None;
+    }
+    items_at(value, "steps")
+}
+
+#[tactic(auto, using(crate::proofs::ReadLemmas::settings_on_ok))]
+fn settings_of(alloc: Global, value: &Value) -> Result<Settings, ScriptEnd>
+    ensures read { IsRead (λ s. s) result (or_form 0 (settings_stated (view value.now))) }
+    ensures within { IfOk result IsSettings }
+{
+    match settings_in(alloc, value) {
+        Ok(settings) => Ok(settings),
+        Err(end) => Err(end_at(0, end)),
     }
 }
 
-fn exposure_of(alloc: Global, value: &Value) -> Result<Exposure, ScriptEnd>
-    ensures read { Reads (λ s. s) result (exposure_of (view value.now)) }
-    ensures within { IfOk result IsExposure }
+// The step that a value is, at its number.
+#[tactic(auto, using(crate::proofs::ReadLemmas::step_on_ok))]
+fn step_of(alloc: Global, number: u32, value: &Value) -> Result<Step, ScriptEnd>
+    ensures read { IsRead (λ s. s) result (result_and_then (or_param number) (or_form number (step_stated (view value.now)))) }
+    ensures within { IfOk result IsStepWithin }
 {
-    match of_json(alloc, Module::Exposure, value) {
-        Ok(Params::Exposure(exposure)) => Ok(exposure),
-        Err(JsonEnd::Memory) => Err(ScriptEnd::Memory),
-        _ => Err(refused()),
+    match step_form(alloc, value) {
+        Ok(Ok(step)) => Ok(step),
+        Ok(Err(fault)) => Err(ScriptEnd::Fault(fault_at(number, Reason::Param(fault)))),
+        Err(end) => Err(end_at(number, end)),
     }
 }
 
-#[tactic(auto, unfolding(crate::specs::Reads::step_of))]
-fn step_of(alloc: Global, value: &Value) -> Result<Exposure, ScriptEnd>
-    ensures read { Reads (λ s. s) result (step_of (view value.now)) }
-    ensures within { IfOk result IsExposure }
+// Puts the step that a value is behind those of the draft.
+#[tactic(auto, unfolding(crate::specs::Script::step_behind))]
+fn step_behind(alloc: Global, draft: &mut Draft, value: &Value) -> Result<(), ScriptEnd>
+    ensures { IsRead (λ _. draft.new) result (step_behind draft.old (view value.now)) }
 {
-    if !has_only(value, &["do", "module", "params"])
-        || !says(value, "do", "set")
-        || !says(value, "module", "exposure")
-    {
-        return Err(refused());
-    }
-    match value.get("params") {
-        Some(settings) => exposure_of(alloc, settings),
-        None => Err(refused()),
-    }
+    let step = step_of(alloc, draft.next_step(), value)?;
+    draft.push(alloc, step)
 }
 
-fn steps_of(alloc: Global, values: &[Value]) -> Result<Vec<Exposure>, ScriptEnd>
-    ensures read { Reads (λ v. v.items) result (steps_of (items_view values.now)) }
-    ensures len { IfOk result (λ v. length v.items ≡ length values.now) }
-    ensures within { IfOk result (λ v. AllByRecursion IsExposure v.items) }
+fn steps_behind(alloc: Global, draft: &mut Draft, values: &[Value]) -> Result<(), ScriptEnd>
+    ensures { IsRead (λ _. draft.new) result (steps_behind draft.old (items_view values.now)) }
 {
-    let mut steps = Vec::with_capacity(alloc, values.len())?;
     for value in values {
-        steps.push(step_of(alloc, value)?)?;
+        step_behind(alloc, draft, value)?;
     }
-    Ok(steps)
+    Ok(())
 }
 
-#[tactic(auto, using(crate::proofs::StepLemmas::count_of_items))]
-fn few_steps_of(alloc: Global, values: &[Value]) -> Result<Vec<Exposure>, ScriptEnd>
-    ensures read { Reads (λ v. v.items) result (few_steps_of (items_view values.now)) }
-    ensures steps { IfOk result (λ v. AreSteps v.items) }
+#[tactic(auto, unfolding(crate::specs::Script::script_in))]
+fn script_in(alloc: Global, value: &Value) -> Result<Script, ScriptEnd>
+    ensures { IsRead (λ s. s) result (script_in (view value.now)) }
 {
-    if values.len() > MOST_STEPS {
-        return Err(refused());
-    }
-    steps_of(alloc, values)
-}
-
-#[tactic(auto, unfolding(crate::specs::Reads::form_of))]
-fn form_of(alloc: Global, value: &Value) -> Result<Vec<Exposure>, ScriptEnd>
-    ensures read { Reads (λ v. v.items) result (form_of (view value.now)) }
-    ensures steps { IfOk result (λ v. AreSteps v.items) }
-{
-    if !has_only(value, &["steps"]) {
-        return Err(refused());
-    }
-    match items_at(value, "steps") {
-        Some(values) => few_steps_of(alloc, values),
-        None => Err(refused()),
-    }
+    let Some(values) = steps_in(value) else {
+        return Err(ScriptEnd::Fault(fault_at(0, Reason::Form)));
+    };
+    let settings = settings_of(alloc, value)?;
+    let opening = opening_at(alloc, value.get("history"))?;
+    let mut draft = Draft::start(alloc, settings, opening)?;
+    steps_behind(alloc, &mut draft, values)?;
+    Ok(draft.finish())
 }
 
 fn script_of(alloc: Global, bytes: &[u8]) -> Result<Script, ScriptEnd>
-    ensures { Reads (λ s. s) result (script_of bytes.now) }
+    ensures { IsRead (λ s. s) result (script_of bytes.now) }
 {
-    if bytes.len() > LONGEST {
-        return Err(refused());
-    }
     let value = text_of(alloc, bytes)?;
-    let steps = form_of(alloc, &value)?;
-    Ok(Script::of(steps))
+    script_in(alloc, &value)
 }
 
-/// Reads a script: a JSON object whose one key is `steps`, a list of at most 256 objects with exactly
-/// the keys `do` ("set"), `module` ("exposure") and `params`, which has exactly `black` (-65,535 to
-/// 65,535) and `gain` (0 to 65,536). Of a repeated key the last value counts. A script has at most
-/// 4,194,304 bytes.
+/// Reads a script from the text of a JSON object; the head of this crate tells its form.
 ///
-/// Anything else is refused as a fault of form at step 0. The front of a longer text, with one byte
-/// above the limit, is refused as the whole text is.
+/// The fault is the first of these. At step 0: `TooLong` over 4,194,304 bytes; `Text` where the bytes are
+/// no JSON, or nest more than 127 deep; `Form` of the top, the settings and the history; `Param` of the
+/// history's items; `TooManyChanges` over 256 items; `Edit` of the order list, of the items and of the
+/// end. Then step by step, with its number from 1: `Form`, `Param`, the limit of its sort, and `Edit`
+/// where the history before it doesn't allow it. Of a repeated key the last value counts.
+///
+/// A value of an edit outside its range is always `Param`, and never `Edit(BadParams)`.
+///
+/// The front of a longer text, with one byte above the limit, is refused as the whole text is.
 pub fn read(alloc: Global, bytes: &[u8]) -> Result<Script, ScriptEnd>
-    ensures read { Reads (λ s. s) result (script_of bytes.now) }
-    ensures front { (text : List ℕ) → take 4194305 text ≡ bytes.now → Reads (λ s. s) result (script_of text) }
+    ensures value { IsRead (λ s. s) result (script_of bytes.now) }
+    ensures front { (text : List ℕ) → take 4194305 text ≡ bytes.now → IsRead (λ s. s) result (script_of text) }
+    ensures param { IfErr result EndsWithoutBadParams }
 {
     script_of(alloc, bytes)
 }

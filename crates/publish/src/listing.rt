@@ -6,7 +6,7 @@ ghost use Rattle.publish.specs.Manifest.{pipe_line, lines_text, end_line, manife
 
 use crate::names::{pipe_file, pipe_word};
 use dev_core::Entry;
-use edit_script::Script;
+use edit_steps::Script;
 use outside::Pipe;
 use std::alloc::{AllocError, Global};
 

@@ -1,6 +1,6 @@
 -- what the machine's steps do to what is kept
 use Rattle.std.proofs.Common.{◌≡◌, ◌≢◌, ℕ, ◌+◌, ◌<◌, ◌≤◌, ◌↔◌, List, [], ◌∷◌, ◌++◌, length, map, refl, sym, ap, subst, ◌∙◌, arith, Bool, true, false, cond, Option, Some, None, IsTrue, ⊎_elim, eqb, zero, suc, length-append}
-use Rattle.std.specs.Prelude.{option_map, is_some, slice_set}
+use Rattle.std.specs.Prelude.{option_map, is_some, slice_get, slice_set, IfSome}
 use Rattle.std.proofs.lemmas.Bool.Decides.{eqb_tells}
 use Rattle.std.proofs.lemmas.List.{map-set, set-set, length-set, get_or-set_same, get_or-set_other, set-get_or}
 use Rattle.std.proofs.Math.ListN.{get_or-map, get_or-append}
@@ -9,14 +9,17 @@ use Rattle.std.proofs.lemmas.Bool.{lt-ltb}
 use Rattle.outside.specs.declared.job_name.JobName.{JobName}
 use Rattle.outside.specs.declared.job_name.JobName.TheVariants as job
 use Rattle.outside.specs.declared.job_name.Pipe.{Pipe}
-use Rattle.params.specs.declared.settings.Exposure.{Exposure}
+use Rattle.edit_steps.specs.declared.step.Step.{Step}
+use Rattle.edit_steps.specs.Changes.{is_change}
+use Rattle.edit_steps.specs.Script.{Recipe}
 use Rattle.dev_core.specs.declared.desk.Desk.{Desk}
 use Rattle.dev_core.specs.declared.entry.Entry.{Entry}
 use Rattle.dev_core.specs.declared.entry.Entry.TheVariants as entry
-use Rattle.dev_core.specs.Desk.{start, May, Legal, Later, IsIdle, IsDue, HoldsPipe, IsSuperseded}
+use Rattle.dev_core.specs.Desk.{start, ChangesNext, May, Legal, Later, IsIdle, IsDue, HoldsPipe, IsSuperseded}
 use Rattle.dev_core.specs.DeskState.{DeskSeen, now, with_entry}
 use Rattle.dev_core.specs.Jobs.{JobSeen, FrameSeen, frame_of, OfPipe}
 use Rattle.dev_core.specs.Lines.{Line}
+use Rattle.dev_core.specs.Subject.{SubjectSeen}
 use Rattle.dev_core.specs.Own.{worker_of, job_after, job_of, HoldsJob}
 use Rattle.dev_core.proofs.DeskLemmas.{LegalFrom-push, desk_of-push}
 use Rattle.dev_core.proofs.OwnLemmas.{says_now, job_of-push, job_of-mine, job_of-other}
@@ -24,7 +27,7 @@ use Rattle.stepped.specs.declared.event.Answer.TheVariants.{Done, Moment}
 use Rattle.stepped.specs.declared.event.Event.TheVariants as event
 use Rattle.stepped.specs.declared.open_run.OpenRun.{OpenRun}
 use Rattle.stepped.specs.Machine.{run_seen, core_seen, run_at, job_at, IsFrameOf, IsOpen, AreOpen, Keeps}
-use Rattle.stepped.specs.Step.{Run, Core, HasRun, IsWorker, IsAllowed, run_of, with_run, with_entries, has_step, for_pipe, fresh, restarted, published, after, answer_to}
+use Rattle.stepped.specs.Step.{Run, Core, HasRun, IsWorker, IsAllowed, run_of, copies, core_of, last_worker, with_run, with_entries, has_step, for_pipe, fresh, restarted, published, after, answer_to}
 
 -- a run that the machine has is the state's
 pub run_of_seen : (desk : DeskSeen) (runs : List (Option OpenRun)) (w : ℕ) → run_of (core_seen desk runs) w ≡ option_map run_seen (run_at runs w)
@@ -65,7 +68,7 @@ pub to_pipe : (d : Desk) (w : ℕ) (name : JobName) (m : ℕ) (P : Pipe → Type
 to_pipe d w (job.Pipe p) m P h each = each p h
 to_pipe d w (job.Ticket t) m P h each = h
 
-pub superseded_job : (script : List Exposure) (d : Desk) (w w' : ℕ) (name : JobName) (m : ℕ) → w' ≡ w → HoldsJob d w name m → OfPipe name (λ p. Later script p m d.moment)
+pub superseded_job : (script : Recipe) (d : Desk) (w w' : ℕ) (name : JobName) (m : ℕ) → w' ≡ w → HoldsJob d w name m → OfPipe name (λ p. Later script p m d.moment)
     → OfPipe name (λ p. IsSuperseded script d p w' m)
 superseded_job script d w w' (job.Pipe p) m same h later = (h ∙ ap (λ n. Some (record { worker = n; moment = m })) (sym same), later)
 superseded_job script d w w' (job.Ticket t) m same h later = h
@@ -343,7 +346,7 @@ took_seen desk desk' runs runs' w p j entered is all =
 
 -- what is allowed where the worker has a run
 pub allowed_run : (desk : DeskSeen) (runs : List (Option OpenRun)) (w : ℕ) (o : OpenRun) (P : Run → Type 0) (r : Bool) → Keeps desk runs → Some o ≡ run_at runs w
-    → (IsTrue r ↔ P (run_seen o)) → IsTrue r ↔ (IsWorker w × HasRun (run_of (core_seen desk runs) w) P)
+    → (IsTrue r ↔ P (run_seen o)) → IsTrue r ↔ (IsWorker (core_seen desk runs) w × HasRun (run_of (core_seen desk runs) w) P)
 allowed_run desk runs w o P r k is both = (
   (λ yes. (omega (arith, run_within runs w o (sym is), k.seats), to_run desk runs w o P (sym is) (both.0 yes))),
   (λ allowed. both.1 (of_run desk runs w o P (sym is) allowed.1)),
@@ -363,11 +366,11 @@ frame_made f x j is h = subst (λ g. IsFrameOf g j) is h
 
 -- the editor's change, and what it answers
 pub changed_seen_by_edit : (desk desk' : DeskSeen) (runs : List (Option OpenRun)) (v : Core) (m : ℕ) → core_seen desk runs ≡ v
-    → desk' ≡ with_entry desk (entry.Changed ((now desk).moment + 1)) → (now desk).steps < length desk.subject.script → m ≡ (now desk').moment
+    → desk' ≡ with_entry desk (entry.Changed ((now desk).moment + 1)) → (now desk).steps < length desk.subject.script.steps → m ≡ (now desk').moment
     → (core_seen desk' runs ≡ after v event.Editor) × (Moment m ≡ answer_to v event.Editor)
 changed_seen_by_edit desk desk' runs v m is entered step told =
     let F : Core → Type 0 = λ s. (core_seen desk' runs ≡ after s event.Editor) × (Moment m ≡ answer_to s event.Editor) in
-    let left : has_step (core_seen desk runs) ≡ true = lt-ltb (now desk).steps (length desk.subject.script) step in
+    let left : has_step (core_seen desk runs) ≡ true = lt-ltb (now desk).steps (length desk.subject.script.steps) step in
     let e = entry.Changed ((now desk).moment + 1) in
     let moment : m ≡ (now desk).moment + 1 = told ∙ ap (λ (d : DeskSeen). (now d).moment) entered ∙ ap (λ (d : Desk). d.moment) (desk_of-push start desk.journal e) in
     subst F is (
@@ -375,6 +378,64 @@ changed_seen_by_edit desk desk' runs v m is entered step told =
           ∙ ap (λ b. with_entries (core_seen desk runs) (cond b e entry.Closed ∷ [])) (sym left),
       ap Moment moment ∙ ap (λ b. cond b (Moment ((now desk).moment + 1)) Done) (sym left),
     )
+
+-- one more of the same
+copies-push : {A : Type 0} (x : A) (n : ℕ) → copies x (suc n) ≡ copies x n ++ x ∷ []
+copies-push x zero = refl
+copies-push x (suc n) = ap (λ xs. x ∷ xs) (copies-push x n)
+
+pub copies-more : {A : Type 0} (x : A) (n : ℕ) → copies x (n + 1) ≡ copies x n ++ x ∷ []
+copies-more x n = let one : n + 1 ≡ suc n = omega arith in ap (copies x) one ∙ copies-push x n
+
+pub copies-length : {A : Type 0} (x : A) (n : ℕ) → length (copies x n) ≡ n
+copies-length x zero = refl
+copies-length x (suc n) = ap suc (copies-length x n)
+
+-- seats that have no run
+seen_copies : (n : ℕ) → map (option_map run_seen) (copies None n) ≡ copies None n
+seen_copies zero = refl
+seen_copies (suc n) = ap (λ xs. None ∷ xs) (seen_copies n)
+
+no_run : (n w : ℕ) → run_at (copies None n) w ≡ None
+no_run zero w = refl
+no_run (suc n) zero = refl
+no_run (suc n) (suc w) = no_run n w
+
+-- ---- before the first event
+
+open_none : (s : SubjectSeen) (n : ℕ) → AreOpen (record { subject = s; journal = [] }) (copies None n)
+open_none s n = record {
+  legal = tt;
+  holds = λ w seat. ap job_at (no_run n w);
+  open_runs = λ w o at. absurd (none_open o (sym (no_run n w) ∙ at));
+}
+
+pub start_keeps : (s : SubjectSeen) (desk : DeskSeen) (runs : List (Option OpenRun)) (w : ℕ) → desk ≡ record { subject = s; journal = [] } → w ≡ last_worker s
+    → runs ≡ copies None (w + 1) → Keeps desk runs
+start_keeps s desk runs w is workers none =
+    subst (λ d. Keeps d runs) (sym is) (subst (Keeps (record { subject = s; journal = [] })) (sym none) (record {
+      seats = copies-length None (w + 1) ∙ ap (λ n. n + 1) workers;
+      are_open = open_none s (w + 1);
+    }))
+
+pub start_seen : (s : SubjectSeen) (desk : DeskSeen) (runs : List (Option OpenRun)) (w : ℕ) → desk ≡ record { subject = s; journal = [] } → w ≡ last_worker s
+    → runs ≡ copies None (w + 1) → core_seen desk runs ≡ core_of s
+start_seen s desk runs w is workers none =
+    let seats : map (option_map run_seen) runs ≡ copies None (last_worker s + 1) = ap (map (option_map run_seen)) none ∙ seen_copies (w + 1) ∙ ap (λ n. copies None (n + 1)) workers in
+    core_same (core_seen desk runs) (core_of s) (ap (λ (d : DeskSeen). d.subject) is) (ap (λ (d : DeskSeen). d.journal) is) seats
+
+-- the script's next step, where it is a change
+pub changes_next : (script : Recipe) (d : Desk) → d.steps < length script.steps → IfSome (slice_get script.steps d.steps) (λ step. is_change step ≡ true) → ChangesNext script d
+changes_next script d within all = there (slice_get script.steps d.steps) refl all
+  where
+    past_get : (xs : List Step) (i : ℕ) → slice_get xs i ≡ None → length xs ≤ i
+    past_get [] i is = omega arith
+    past_get (x ∷ xs) zero is = absurd cc
+    past_get (x ∷ xs) (suc i) is = let h : length xs ≤ i = past_get xs i is in omega arith
+
+    there : (o : Option Step) → slice_get script.steps d.steps ≡ o → IfSome o (λ step. is_change step ≡ true) → ChangesNext script d
+    there None is changed = absurd (omega (arith, past_get script.steps d.steps is, within))
+    there (Some step) is changed = record { step = step; stands = is; changes_it = changed }
 
 -- the last run of a list, and those before it
 pub last_run : (items rs : List (Option OpenRun)) (seat : Option OpenRun) (o : OpenRun) → items ≡ rs ++ seat ∷ [] → seat ≡ Some o → run_at items (length rs) ≡ Some o
@@ -419,12 +480,16 @@ may_give_back desk items rs seat o is some k =
     (mine.subject, held_job (now desk) (length rs) o.job.worker o.job.name o.job.moment mine.worker (holds_run desk items k (length rs) o at))
 
 -- whether a worker may take a pipe
-pub allowed_take : (desk : DeskSeen) (runs : List (Option OpenRun)) (w : ℕ) (p : Pipe) (r : Bool) → Keeps desk runs → w ≤ 2 → None ≡ run_at runs w
+pub allowed_take : (desk : DeskSeen) (runs : List (Option OpenRun)) (w : ℕ) (p : Pipe) (r : Bool) → Keeps desk runs → w < length runs → None ≡ run_at runs w
     → (IsTrue r ↔ IsDue desk.subject.script (now desk) p) → IsTrue r ↔ IsAllowed (core_seen desk runs) (event.Take w p)
 allowed_take desk runs w p r k worker free due = (
-  (λ yes. (worker, due.0 yes, idle_free desk runs k.are_open w (omega (arith, worker, k.seats)) (sym free))),
+  (λ yes. (omega (arith, worker, k.seats), due.0 yes, idle_free desk runs k.are_open w worker (sym free))),
   (λ allowed. due.1 allowed.1),
 )
+
+-- a worker past the last one may not take
+pub not_allowed_past : (desk : DeskSeen) (runs : List (Option OpenRun)) (w : ℕ) (p : Pipe) → Keeps desk runs → length runs ≤ w → IsTrue false ↔ IsAllowed (core_seen desk runs) (event.Take w p)
+not_allowed_past desk runs w p k past = ((λ no. absurd cc), (λ allowed. absurd (omega (arith, allowed.0, k.seats, past))))
 
 pub not_allowed_take : (desk : DeskSeen) (runs : List (Option OpenRun)) (w : ℕ) (p : Pipe) (o : OpenRun) → Keeps desk runs → Some o ≡ run_at runs w
     → IsTrue false ↔ IsAllowed (core_seen desk runs) (event.Take w p)

@@ -1,14 +1,10 @@
 -- the events that are read so far, in front of what the rest gives; the parts of an event
-use Rattle.std.proofs.Common.{◌≡◌, ℕ, ◌<◌, List, [], ◌∷◌, ◌++◌, length, suc, take, Option, None, get_or, refl, sym, ap, ◌∙◌, arith}
-use Rattle.std.specs.Prelude.{option_map, nat_le, false, ◌≤◌}
-use Rattle.std.proofs.lemmas.Bool.{cases_lt}
-use Rattle.std.proofs.lemmas.Bool.Decides.{nat_tests}
-use Rattle.std.proofs.lemmas.List.{length-take}
-use Rattle.std.proofs.Common.{⊎_elim, take_all}
+use Rattle.std.proofs.Common.{◌≡◌, List, [], ◌∷◌, ◌++◌, length, suc, Option, None, get_or, refl, ap, arith}
+use Rattle.std.specs.Prelude.{option_map}
 use Rattle.serde_json.specs.View.{view, items_view}
 use Rattle.serde_json.specs.declared.value.Value.{Value}
 use Rattle.stepped.specs.declared.event.Event.{Event}
-use Rattle.stepped.specs.Reads.{event_of_one, event_of_two, event_of_three, event_of_parts, count_of, events_of}
+use Rattle.stepped.specs.Reads.{event_of_one, event_of_two, event_of_three, event_of_parts, count_of}
 
 abbrev pub with_front : List Event → Option (List Event) → Option (List Event)
 with_front front read = option_map (λ es. front ++ es) read
@@ -16,17 +12,6 @@ with_front front read = option_map (λ es. front ++ es) read
 pub count_of_items : (values : List Value) → count_of (items_view values) ≡ length values
 count_of_items [] = refl
 count_of_items (v ∷ vs) = ap suc (count_of_items vs)
-
--- the front of a text, with one byte above the limit, tells what the whole does
-pub events_of_front : (text bytes : List ℕ) → take 4194305 text ≡ bytes → events_of text ≡ events_of bytes
-events_of_front text bytes front = ⊎_elim
-    (λ (longer : 4194304 < length text).
-    let len : length bytes ≡ 4194305 = ap length (sym front) ∙ rw (length-take 4194305 text) (omega arith) in
-    let whole : nat_le (length text) 4194304 ≡ false = grind (arith, nat_tests) in
-    let cut : nat_le (length bytes) 4194304 ≡ false = grind (arith, nat_tests) in
-    rw (whole, cut) refl)
-    (λ (within : length text ≤ 4194304). ap events_of (sym (take_all 4194305 text (omega arith)) ∙ front))
-    (cases_lt 4194304 (length text))
 
 -- ---- parts of an event
 

@@ -1,5 +1,5 @@
 -- the machine that makes the steps, and what it keeps
-use Rattle.std.specs.Prelude.{◌≡◌, ℕ, ◌<◌, List, map, length, slice_index_or, Option, Some, None, option_map, is_some, Result, Ok, Err}
+use Rattle.std.specs.Prelude.{◌≡◌, ℕ, ◌+◌, ◌<◌, List, map, length, slice_index_or, Option, Some, None, option_map, is_some, Result, Ok, Err}
 use Rattle.std.specs.declared.alloc.AllocError.{AllocError}
 use Rattle.dev_core.specs.Desk.{Legal}
 use Rattle.dev_core.specs.DeskState.{DeskSeen}
@@ -9,7 +9,7 @@ use Rattle.dev_core.specs.Own.{job_of}
 use Rattle.stepped.specs.declared.event.Answer.{Answer}
 use Rattle.stepped.specs.declared.event.Event.{Event}
 use Rattle.stepped.specs.declared.open_run.OpenRun.{OpenRun}
-use Rattle.stepped.specs.Step.{Run, Core, after, answer_to}
+use Rattle.stepped.specs.Step.{Run, Core, after, answer_to, last_worker}
 
 -- an open run without its pictures
 abbrev pub run_seen : OpenRun → Run
@@ -43,7 +43,7 @@ pub record AreOpen (desk : DeskSeen) (runs : List (Option OpenRun)) : Type 0 whe
   pub open_runs : (n : ℕ) (o : OpenRun) → run_at runs n ≡ Some o → IsOpen desk n o
 
 pub record Keeps (desk : DeskSeen) (runs : List (Option OpenRun)) : Type 0 where
-  pub seats : length runs ≡ 3
+  pub seats : length runs ≡ last_worker desk.subject + 1
   pub are_open : AreOpen desk runs
 
 -- an event that may happen has happened; want of memory left all as it was

@@ -1,9 +1,9 @@
 -- events, read from JSON: a list of lists, each a word and what it needs
-use Rattle.std.specs.Prelude.{ℕ, suc, List, [], ◌∷◌, length, Option, Some, None, option_and_then, codes, bytes_eq, nat_le, ◌&&◌, if◌then◌else◌}
-use Rattle.std.specs.Str.{is_utf8}
+use Rattle.std.specs.Prelude.{ℕ, suc, List, [], ◌∷◌, Option, Some, None, option_and_then, codes, bytes_eq, nat_le, ◌&&◌, if◌then◌else◌}
+use Rattle.std.specs.Result.{result_ok}
 use Rattle.serde_json.specs.Data.{Data, Items, no_items, item}
 use Rattle.serde_json.specs.Find.{as_array, as_str}
-use Rattle.serde_json.specs.Read as json
+use Rattle.json_form.specs.Text.{text_of}
 use Rattle.params.specs.Form.{natural, ◌>>=◌}
 use Rattle.outside.specs.declared.job_name.Pipe.TheVariants.{Full}
 use Rattle.stepped.specs.declared.event.Event.{Event}
@@ -73,13 +73,9 @@ count_of (item d ds) = suc (count_of ds)
 abbrev pub few_events_in : Items → Option (List Event)
 few_events_in ds = if nat_le (count_of ds) 65536 then events_in ds else None
 
--- the text as a value
-abbrev pub text_of : List ℕ → Option Data
-text_of bytes = if is_utf8 bytes then json.read bytes else None
-
 abbrev pub list_of : Data → Option (List Event)
 list_of d = option_and_then few_events_in (as_array d)
 
 -- the events of a text of at most 4,194,304 bytes
 abbrev pub events_of : List ℕ → Option (List Event)
-events_of bytes = if nat_le (length bytes) 4194304 then option_and_then list_of (text_of bytes) else None
+events_of bytes = option_and_then list_of (result_ok (text_of bytes))

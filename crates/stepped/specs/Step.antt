@@ -1,10 +1,11 @@
 -- the core as a machine: where an event may happen in a plain state, what it does, and what it answers
-use Rattle.std.specs.Prelude.{◌≡◌, ℕ, ◌+◌, ◌<◌, ◌≤◌, List, [], ◌∷◌, ◌++◌, length, slice_set, slice_index_or, Bool, true, false, Option, Some, None, option_map, is_some, nat_lt, if◌then◌else◌}
+use Rattle.std.specs.Prelude.{◌≡◌, ℕ, zero, suc, ◌+◌, ◌<◌, ◌≤◌, IfSome, slice_get, List, [], ◌∷◌, ◌++◌, length, slice_set, slice_index_or, Bool, true, false, Option, Some, None, option_map, nat_lt, if◌then◌else◌}
 use Rattle.outside.specs.declared.job_name.JobName.{JobName}
 use Rattle.outside.specs.declared.job_name.JobName.TheVariants as job
 use Rattle.outside.specs.declared.job_name.Pipe.{Pipe}
-use Rattle.params.specs.declared.settings.Exposure.{Exposure}
-use Rattle.edit_script.specs.Steps.{exposure_after}
+use Rattle.edit_steps.specs.Changes.{is_change}
+use Rattle.edit_steps.specs.Script.{Recipe, history_at}
+use Rattle.pipe_nodes.specs.Actives.{actives_of}
 use Rattle.dev_core.specs.declared.desk.Desk.{Desk}
 use Rattle.dev_core.specs.declared.entry.Entry.{Entry}
 use Rattle.dev_core.specs.declared.entry.Entry.TheVariants as entry
@@ -36,17 +37,29 @@ desk_at s = desk_of start s.journal
 abbrev pub run_of : Core → ℕ → Option Run
 run_of s w = slice_index_or s.runs w None
 
--- the workers' numbers are 0 to 2
-abbrev pub IsWorker : ℕ → Type 0
-IsWorker w = w ≤ 2
+-- the greatest number of a worker: the editor is 0, and the workers are numbered from 1
+abbrev pub last_worker : SubjectSeen → ℕ
+last_worker subject = subject.script.settings.workers
+
+abbrev pub IsWorker : Core → ℕ → Type 0
+IsWorker s w = w ≤ last_worker s.subject
+
+-- as many of the same
+abbrev pub copies : {A : Type 0} → A → ℕ → List A
+copies x zero = []
+copies x (suc n) = x ∷ copies x n
 
 -- the state before the first event
 abbrev pub core_of : SubjectSeen → Core
-core_of subject = record { subject = subject; journal = []; runs = None ∷ None ∷ None ∷ [] }
+core_of subject = record { subject = subject; journal = []; runs = copies None (last_worker subject + 1) }
 
--- how many modules are active after the first m changes: demosaic, and exposure where a step has set it
-abbrev pub actives_at : List Exposure → ℕ → ℕ
-actives_at script m = if is_some (exposure_after script m) then 2 else 1
+-- how many module instances are active after the first m changes
+abbrev pub actives_at : Recipe → ℕ → ℕ
+actives_at script m = length (actives_of (history_at script m))
+
+-- what the editor does next can be done: the script's next step is a change, or none is left
+abbrev pub CanStep : Core → Type 0
+CanStep s = IfSome (slice_get s.subject.script.steps (desk_at s).steps) (λ step. is_change step ≡ true)
 
 -- there is a run, of which this holds
 abbrev pub HasRun : Option Run → (Run → Type 0) → Type 0
@@ -60,13 +73,13 @@ IsBefore (Some k) n = k < n
 
 -- where an event may happen
 abbrev pub IsAllowed : Core → Event → Type 0
-IsAllowed s Editor = (desk_at s).closed ≡ false
-IsAllowed s (Take w p) = IsWorker w × IsDue s.subject.script (desk_at s) p × IsIdle (desk_at s) w
-IsAllowed s (Restart w) = IsWorker w × HasRun (run_of s w) (λ r. OfPipe r.job (λ p. Later s.subject.script p r.moment (desk_at s).moment))
-IsAllowed s (Load w) = IsWorker w × HasRun (run_of s w) (λ r. r.stage ≡ None)
-IsAllowed s (Node w) = IsWorker w × HasRun (run_of s w) (λ r. IsBefore r.stage (actives_at s.subject.script r.moment) × (r.framed ≡ false))
-IsAllowed s (Finish w) = IsWorker w × HasRun (run_of s w) (λ r. (r.stage ≡ Some (actives_at s.subject.script r.moment)) × (r.framed ≡ false))
-IsAllowed s (Publish w) = IsWorker w × HasRun (run_of s w) (λ r. OfPipe r.job (λ p. r.framed ≡ true))
+IsAllowed s Editor = ((desk_at s).closed ≡ false) × CanStep s
+IsAllowed s (Take w p) = IsWorker s w × IsDue s.subject.script (desk_at s) p × IsIdle (desk_at s) w
+IsAllowed s (Restart w) = IsWorker s w × HasRun (run_of s w) (λ r. OfPipe r.job (λ p. Later s.subject.script p r.moment (desk_at s).moment))
+IsAllowed s (Load w) = IsWorker s w × HasRun (run_of s w) (λ r. r.stage ≡ None)
+IsAllowed s (Node w) = IsWorker s w × HasRun (run_of s w) (λ r. IsBefore r.stage (actives_at s.subject.script r.moment) × (r.framed ≡ false))
+IsAllowed s (Finish w) = IsWorker s w × HasRun (run_of s w) (λ r. (r.stage ≡ Some (actives_at s.subject.script r.moment)) × (r.framed ≡ false))
+IsAllowed s (Publish w) = IsWorker s w × HasRun (run_of s w) (λ r. OfPipe r.job (λ p. r.framed ≡ true))
 
 abbrev pub with_entries : Core → List Entry → Core
 with_entries s es = record s { journal = s.journal ++ es }
@@ -102,7 +115,7 @@ published w (Some r) = for_pipe r.job (λ p. entry.Published p w r.moment)
 
 -- a step of the script is left
 abbrev pub has_step : Core → Bool
-has_step s = nat_lt (desk_at s).steps (length s.subject.script)
+has_step s = nat_lt (desk_at s).steps (length s.subject.script.steps)
 
 -- the state after an event
 abbrev pub after : Core → Event → Core

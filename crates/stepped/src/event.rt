@@ -2,7 +2,8 @@ use outside::Pipe;
 use std::alloc::AllocError;
 use thiserror::Error;
 
-/// One thing that the editor or a worker does. Workers are numbered 0 to 2.
+/// One thing that the editor or a worker does. Workers are numbered from 1 to the script's setting; the
+/// editor may take jobs itself, as worker 0.
 #[derive(Clone, Copy, Debug, PartialEq, Eq)]
 pub enum Event {
     /// The editor makes the script's next step, or closes where none is left.

@@ -1,6 +1,7 @@
 //! The desk and the workers' runs, and what each event does to them.
-ghost use Rattle.std.specs.Prelude.{◌≡◌, ◌↔◌, IsTrue, IfOk};
+ghost use Rattle.std.specs.Prelude.{◌≡◌, ◌↔◌, ◌-◌, ◌≤◌, length, slice_get, IsTrue, IfOk, IfSome};
 ghost use Rattle.std.specs.Arc.{arc_value};
+ghost use Rattle.edit_steps.specs.Changes.{is_change};
 ghost use Rattle.stepped.specs.declared.event.Event.TheVariants as event;
 ghost use Rattle.stepped.specs.Machine.{IsApplied, AreOpen};
 ghost use Rattle.stepped.specs.Step.{core_of, IsAllowed};
@@ -13,9 +14,6 @@ use std::alloc::{AllocError, Global};
 use std::marker::Model;
 use std::sync::Arc;
 use std::thread::Threads;
-
-/// The greatest number of a worker.
-const LAST_WORKER: u32 = 2;
 
 /// The desk, and the run of each worker. Each job that is out at the desk is held by a run.
 pub(crate) struct Machine {
@@ -39,7 +37,7 @@ impl Machine {
         ensures { IfOk result (λ m. m ≡ core_of (arc_value subject)) }
     {
         let desk = DeskState::start(alloc, subject)?;
-        let runs = no_runs(alloc)?;
+        let runs = no_runs(alloc, desk.subject().script().settings().workers)?;
         Ok(Machine { desk, runs })
     }
 
@@ -55,14 +53,15 @@ impl Machine {
     {
         match self.desk.next_step() {
             NextStep::Closed => false,
-            _ => true,
+            NextStep::Close => true,
+            NextStep::Step { number } => is_change(&self.desk, number),
         }
     }
 
     fn may_take(&self, worker: u32, pipe: Pipe) -> bool
         ensures { IsTrue result ↔ IsAllowed self.now (event.Take worker pipe) }
     {
-        if worker > LAST_WORKER {
+        if worker as usize >= self.runs.len() {
             return false;
         }
         match run_at(self.runs.as_slice(), worker) {
@@ -256,6 +255,18 @@ impl Machine {
             Event::Finish { worker } => self.finish(rt, alloc, worker),
             Event::Publish { worker } => self.publish(worker),
         }
+    }
+}
+
+// Whether the step with this number, counted from 1, is a change.
+fn is_change(desk: &DeskState, number: u32) -> bool
+    requires some { 1 ≤ number }
+    requires there { number ≤ length desk.now.subject.script.steps }
+    ensures { IfSome (slice_get desk.now.subject.script.steps (number - 1)) (λ step. result ≡ is_change step) }
+{
+    match desk.subject().script().steps().get(number as usize - 1) {
+        None => false,
+        Some(step) => step.is_change(),
     }
 }
 

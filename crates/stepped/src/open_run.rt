@@ -1,8 +1,8 @@
 //! The runs that workers have open, by the workers' numbers.
-ghost use Rattle.std.specs.Prelude.{◌≡◌, ◌↔◌, ◌+◌, ◌<◌, [], ◌∷◌, slice_set, vec_len, option_map, IsTrue, IsSome, IfOk, Some, None, true, false, is_some};
+ghost use Rattle.std.specs.Prelude.{◌≡◌, ◌↔◌, ◌+◌, ◌<◌, ◌≤◌, [], ◌∷◌, slice_set, vec_len, option_map, IsTrue, IsSome, IfOk, Some, None, true, false, is_some};
 ghost use Rattle.std.specs.Option.{option_copied};
 ghost use Rattle.stepped.specs.Machine.{run_at};
-ghost use Rattle.stepped.specs.Step.{IsBefore, actives_at};
+ghost use Rattle.stepped.specs.Step.{IsBefore, actives_at, copies};
 
 use dev_core::{Frame, Job};
 use std::alloc::{AllocError, Global};
@@ -16,16 +16,6 @@ pub(crate) struct OpenRun {
 }
 
 impl OpenRun {
-    // How many modules are active at the run's moment: demosaic, and exposure where a step has set it.
-    fn actives(&self) -> u32
-        ensures { result ≡ actives_at self.now.job.subject.script self.now.job.moment }
-    {
-        match self.job.subject().script().exposure_at(self.job.moment()) {
-            None => 1,
-            Some(_) => 2,
-        }
-    }
-
     pub(crate) fn may_load(&self) -> bool
         ensures { IsTrue result ↔ (self.now.stage ≡ None) }
     {
@@ -40,17 +30,19 @@ impl OpenRun {
         }
         match self.stage {
             None => false,
-            Some(done) => done < self.actives(),
+            Some(done) => done < self.job.active_count(),
         }
     }
 
-    /// Counts one more module.
+    /// Counts one more module, where one is left.
     pub(crate) fn process(&mut self)
         requires { IsBefore self.old.stage (actives_at self.old.job.subject.script self.old.job.moment) }
         ensures { self.new ≡ record self.old { stage = option_map (λ k. k + 1) self.old.stage } }
     {
         let done = self.stage.unwrap();
-        self.stage = Some(done + 1);
+        if done < self.job.active_count() {
+            self.stage = Some(done + 1);
+        }
     }
 
     pub(crate) fn may_finish(&self) -> bool
@@ -61,7 +53,7 @@ impl OpenRun {
         }
         match self.stage {
             None => false,
-            Some(done) => done == self.actives(),
+            Some(done) => done == self.job.active_count(),
         }
     }
 
@@ -72,14 +64,15 @@ impl OpenRun {
     }
 }
 
-/// No runs, for three workers.
-pub(crate) fn no_runs(alloc: Global) -> Result<Vec<Option<OpenRun>>, AllocError>
-    ensures { IfOk result (λ v. v.items ≡ None ∷ None ∷ None ∷ []) }
+/// No runs, for the editor and so many workers.
+pub(crate) fn no_runs(alloc: Global, workers: u32) -> Result<Vec<Option<OpenRun>>, AllocError>
+    requires { workers ≤ 4 }
+    ensures { IfOk result (λ v. v.items ≡ copies None (workers + 1)) }
 {
-    let mut runs = Vec::with_capacity(alloc, 3)?;
-    runs.push_reserved(None);
-    runs.push_reserved(None);
-    runs.push_reserved(None);
+    let mut runs = Vec::with_capacity(alloc, workers as usize + 1)?;
+    for _seat in 0..workers + 1 {
+        runs.push_reserved(None);
+    }
     Ok(runs)
 }
 

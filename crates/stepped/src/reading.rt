@@ -2,19 +2,16 @@
 ghost use Rattle.std.specs.Prelude.{◌≡◌, ℕ, ◌≤◌, List, length, take, IfOk, Err, None};
 ghost use Rattle.serde_json.specs.View.{view, items_view};
 ghost use Rattle.stepped.specs.declared.event.Event.{Event as EventSeen};
-ghost use Rattle.stepped.specs.Reads.{alone, of_worker, of_pipe, worker_in, event_of_one, event_of_two, event_of_three, event_of_parts, event_of, events_in, few_events_in, list_of, text_of, events_of};
+ghost use Rattle.stepped.specs.Reads.{alone, of_worker, of_pipe, worker_in, event_of_one, event_of_two, event_of_three, event_of_parts, event_of, events_in, few_events_in, list_of, events_of};
 ghost use Rattle.stepped.specs.Read.{Reads};
 
 use crate::event::Event;
 use crate::fault::{EventReason, EventsEnd, EventsFault};
+use json_form::{TextEnd, value_of};
 use outside::Pipe;
 use params::form::natural;
 use serde_json::Value;
-use serde_json::error::Category;
 use std::alloc::Global;
-
-/// How many bytes a list of events has at most.
-const LONGEST: usize = 4_194_304;
 
 /// How many events there are at most.
 const MOST_EVENTS: usize = 65_536;
@@ -27,18 +24,6 @@ fn refused() -> EventsEnd
         place: 0,
         reason: EventReason::Form,
     })
-}
-
-fn text_of(alloc: Global, bytes: &[u8]) -> Result<Value, EventsEnd>
-    ensures { Reads view result (text_of bytes.now) }
-{
-    match Value::from_slice(alloc, bytes) {
-        Ok(value) => Ok(value),
-        Err(refusal) => match refusal.classify() {
-            Category::Memory => Err(EventsEnd::Memory),
-            _ => Err(refused()),
-        },
-    }
 }
 
 fn alone(word: &str) -> Option<Event>
@@ -161,17 +146,6 @@ fn list_of(alloc: Global, value: &Value) -> Result<Vec<Event>, EventsEnd>
     }
 }
 
-fn events_of(alloc: Global, bytes: &[u8]) -> Result<Vec<Event>, EventsEnd>
-    ensures read { Reads (λ v. v.items) result (events_of bytes.now) }
-    ensures few { IfOk result (λ v. length v.items ≤ 65536) }
-{
-    if bytes.len() > LONGEST {
-        return Err(refused());
-    }
-    let value = text_of(alloc, bytes)?;
-    list_of(alloc, &value)
-}
-
 /// Reads events: a JSON list of at most 65,536 lists, in at most 4,194,304 bytes. An event is
 /// `["editor"]`, `["take", W, "full"]`, or one of `restart`, `load`, `node`, `finish` and `publish` with
 /// a worker W from 0 to 4.
@@ -183,5 +157,10 @@ pub fn read_events(alloc: Global, bytes: &[u8]) -> Result<Vec<Event>, EventsEnd>
     ensures few { IfOk result (λ v. length v.items ≤ 65536) }
     ensures front { (text : List ℕ) → take 4194305 text ≡ bytes.now → Reads (λ v. v.items) result (events_of text) }
 {
-    events_of(alloc, bytes)
+    match value_of(alloc, bytes) {
+        Ok(value) => list_of(alloc, &value),
+        Err(TextEnd::TooLong) => Err(refused()),
+        Err(TextEnd::Text) => Err(refused()),
+        Err(TextEnd::Memory) => Err(EventsEnd::Memory),
+    }
 }

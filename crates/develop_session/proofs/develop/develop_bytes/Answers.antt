@@ -1,16 +1,29 @@
-use Rattle.std.proofs.Common.{ap, ◌∙◌}
+use Rattle.std.proofs.Common.{◌≡◌, ap, ◌∙◌}
 use Rattle.std.proofs.lemmas.Result.{IfOk-weaker}
-use Rattle.px.specs.declared.depth.Depth.TheVariants.{Eight}
+use Rattle.std.proofs.lemmas.List.Elements.{All-same}
 use Rattle.px.specs.Cut.{picture_of}
 use Rattle.pnm.specs.Pnm.{written}
-use Rattle.edit_script.specs.Steps.{exposure_after}
-use Rattle.dev_core.specs.Shown.{exposed_by}
+use Rattle.edit_steps.specs.declared.settings.Settings.{Settings}
+use Rattle.edit_steps.specs.Script.{changes, history_at}
+use Rattle.pipe_nodes.specs.Active.{IsBuilt}
+use Rattle.pipe_nodes.specs.Actives.{actives_of}
+use Rattle.pipe_nodes.specs.Whole.{whole}
+use Rattle.dev_core.proofs.BuiltLemmas.{built_at}
 use Rattle.develop_session.proofs.PictureLemmas.{part_of_self}
 use Rattle.develop_session.proofs.develop.develop_bytes.Goals as goal
 
+pub shown_bytes-requires-clause-built : goal.shown_bytes-requires-clause-built
+shown_bytes-requires-clause-built g c =
+    let script = c.args.script.now in
+    λ κs outlived. All-same IsBuilt (actives_of c.in_ok-history.history) (actives_of (history_at script c.changes.result)) (ap actives_of c.in_ok-history.ensures) (built_at script c.changes.result c.requires)
+
 pub returns : goal.returns
 returns g c =
-    let plane = c.args.plane.now in
-    let last = c.exposure_at.ensures.value ∙ ap (exposure_after c.args.script.now) c.changes.ensures.count in
+    let script = c.args.script.now in
+    let q = picture_of c.args.source.now in
+    let history = c.in_ok-history.ensures ∙ ap (history_at script) c.changes.ensures.count in
     IfOk-weaker c.shown_bytes.result _ _
-    (λ b bytes. bytes (picture_of plane) (part_of_self plane) ∙ ap (λ e. written (exposed_by e (picture_of plane)) Eight) last) c.shown_bytes.ensures
+    (λ b bytes. bytes q (part_of_self c.args.source.now)
+    ∙ ap (λ h. written (whole q 0 (actives_of h)) c.settings.result.now.depth) history
+    ∙ ap (λ (s : Settings). written (whole q 0 (actives_of (history_at script (changes script)))) s.depth) c.settings.ensures.value)
+    c.shown_bytes.ensures

@@ -6,6 +6,6 @@ pub invariant_of-self-2 : goal.invariant_of-self-2
 invariant_of-self-2 c =
     let s = c.self.inside in
     let job = c.args.job.now in
-    keeps_restarted (arc_value s.subject) s.changes s.journal s.frames s.desk _ c.self.view_is c.self.invariant
+    keeps_restarted (arc_value s.subject) s.step_count s.journal s.frames s.desk _ c.self.view_is c.self.invariant
     job.name job.worker job.moment _ _ _ _ _ c.requires.row c.pipe.ensures c.worker.ensures c.make_room.ensures.items c.in_ok-make_room.ensures.ok
     c.add.ensures.items c.add.ensures.room c.next-self-inside.ensures

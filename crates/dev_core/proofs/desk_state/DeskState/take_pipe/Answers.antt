@@ -5,6 +5,6 @@ use Rattle.dev_core.proofs.desk_state.DeskState.take_pipe.Goals as goal
 pub invariant_of-self-2 : goal.invariant_of-self-2
 invariant_of-self-2 c =
     let s = c.self.inside in
-    keeps_took (arc_value s.subject) s.changes s.journal s.frames s.desk _ c.self.view_is c.self.invariant
+    keeps_took (arc_value s.subject) s.step_count s.journal s.frames s.desk _ c.self.view_is c.self.invariant
     c.args.pipe c.args.worker _ _ _ _ c.requires c.make_room.ensures.items c.in_ok-make_room.ensures.ok
     c.make_room-2.ensures.items c.in_ok-make_room-2.ensures.ok c.add.ensures.items c.add.ensures.room c.next-self-inside.ensures

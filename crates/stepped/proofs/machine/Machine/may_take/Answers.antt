@@ -6,14 +6,11 @@ use Rattle.stepped.specs.Machine.{run_at}
 use Rattle.stepped.specs.Step.{Core, IsAllowed}
 use Rattle.stepped.proofs.machine.Machine.may_take.Goals as goal
 
-pub returns-then-worker-gt-LAST_WORKER : goal.returns-then-worker-gt-LAST_WORKER
-returns-then-worker-gt-LAST_WORKER c = (λ no. absurd cc, λ allowed. absurd (omega (arith, allowed.0)))
-
 pub returns-in-None : goal.returns-in-None
 returns-in-None c =
     let s = c.self.inside in
     let F : Core → Type 0 = λ v. IsTrue c.is_due.result ↔ IsAllowed v (event.Take c.args.worker c.args.pipe) in
-    subst F c.self.view_is (allowed_take s.desk s.runs.items c.args.worker c.args.pipe _ c.self.invariant (omega arith)
+    subst F c.self.view_is (allowed_take s.desk s.runs.items c.args.worker c.args.pipe _ c.self.invariant (omega (arith, c.len.ensures, c.if-worker-len.false, s.runs.ok.0))
     (c.in-None.ensures ∙ ap (λ (rs : List (Option OpenRun)). run_at rs c.args.worker) c.as_slice.ensures.value) c.is_due.ensures)
 
 pub returns-in-Some : goal.returns-in-Some

@@ -1,0 +1,27 @@
+ghost use Rattle.std.specs.Prelude.{◌≡◌};
+ghost use Rattle.edit_script.specs.declared.form_end.FormEnd.TheVariants.{Memory};
+
+use std::alloc::{AllocError, AllocFailed};
+
+// Why a value has no form: it hasn't, or memory ran out.
+#[derive(Drop)]
+pub(crate) enum FormEnd {
+    Form,
+    Memory,
+}
+
+impl From<AllocError> for FormEnd {
+    ghost from_gives = { λ _ e. e ≡ Memory };
+
+    fn from(_error: AllocError) -> FormEnd {
+        FormEnd::Memory
+    }
+}
+
+impl<T: Drop> From<AllocFailed<T>> for FormEnd {
+    ghost from_gives = { λ _ e. e ≡ Memory };
+
+    fn from(_error: AllocFailed<T>) -> FormEnd {
+        FormEnd::Memory
+    }
+}
