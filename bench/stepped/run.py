@@ -1,22 +1,34 @@
 #!/usr/bin/env python3
 """`devcore stepped` over more and more events, on a small picture: the time an event, which is to stay the same.
 
-run.py [--rounds N]: medians of N (5) rounds. Replays that may happen have at most 256 changes, and so some 1,800 events
-(each change with a restart, load, two nodes and a finish); longer lists are read whole and refused at their second event.
-Outside the gate. Needs Python 3; the program is built by bin/devcore.
+run.py [--rounds N]: medians of N (5) rounds. Replays that may happen have at most 256 changes. Each lets a run begin anew
+and do all its modules, so with 61 instances of exposure in the opening history there are up to some 17,000 events; longer
+lists are read whole and refused at their second event. Outside the gate. Needs Python 3; the program is built by
+bin/devcore.
 """
 import json, os, statistics, subprocess, sys, tempfile, time
 
 here = os.path.dirname(os.path.abspath(__file__))
 top = os.path.join(here, "..", "..")
 rounds = int(sys.argv[sys.argv.index("--rounds") + 1]) if "--rounds" in sys.argv else 5
-CHANGES = [32, 64, 128, 255]
+CHANGES = [15, 60, 255]
 READ = [1_000, 10_000, 60_000]
+INSTANCES = 61
+FRONT = [["rawprepare", 0], ["temperature", 0], ["demosaic", 0]]
+
+
+def script(changes):
+    """An opening history of many exposures, and changes of the last one."""
+    exposure = {"module": "exposure", "params": {"black": 0, "gain": 4096}}
+    items = [dict(exposure, instance=i) for i in range(INSTANCES)]
+    history = {"items": items, "end": INSTANCES, "order": FRONT + [["exposure", i] for i in range(INSTANCES)]}
+    steps = [dict(exposure, do="set", instance=INSTANCES - 1, params={"black": 0, "gain": 4096 + i}) for i in range(changes)]
+    return {"history": history, "steps": steps}
 
 
 def replay(changes):
     """A worker that is overtaken by each change, makes its frame anew, and publishes the last one."""
-    run = [["load", 1], ["node", 1], ["node", 1], ["finish", 1]]
+    run = [["load", 1]] + [["node", 1]] * (INSTANCES + 1) + [["finish", 1]]
     events = [["editor"], ["take", 1, "full"]] + run
     for _ in range(changes - 1):
         events += [["editor"], ["restart", 1]] + run
@@ -43,11 +55,10 @@ def main():
         subprocess.run([os.path.join(top, "bin", "devcore"), "--help"], stdout=subprocess.DEVNULL)
     with tempfile.TemporaryDirectory() as folder:
         with open(os.path.join(folder, "source.ppm"), "wb") as f:
-            f.write(b"P6\n16 16\n255\n" + bytes(768))
-        step = {"do": "set", "module": "exposure", "params": {"black": 0, "gain": 8192}}
+            f.write(b"P6\n4 4\n255\n" + bytes(48))
         for changes in CHANGES:
             with open(os.path.join(folder, "script.json"), "w") as f:
-                json.dump({"steps": [step] * changes}, f)
+                json.dump(script(changes), f)
             events = replay(changes)
             took = median(program, folder, events, 0)
             print("%6d events replayed  %6.1f ms  %5.1f us an event" % (len(events), took * 1e3, took * 1e6 / len(events)))
