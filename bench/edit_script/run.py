@@ -5,11 +5,11 @@ run.py [--rounds N]: medians of N (5) rounds, less the time of an empty script. 
 by white space; `many` is a list of steps that is parsed whole and refused at step 257. Outside the gate. Needs Python 3; the
 program is built by bin/devcore.
 """
-import os, statistics, subprocess, sys, tempfile, time
+import os, sys, tempfile
 
-here = os.path.dirname(os.path.abspath(__file__))
-top = os.path.join(here, "..", "..")
-rounds = int(sys.argv[sys.argv.index("--rounds") + 1]) if "--rounds" in sys.argv else 5
+sys.path.insert(0, os.path.join(os.path.dirname(os.path.abspath(__file__)), ".."))
+from program import built, median
+
 SIZES = [262_144, 1_048_576, 4_194_304]
 STEP = '{"do":"set","module":"exposure","params":{"black":0,"gain":8192}}'
 SHORT = '{"do":"compress"}'
@@ -29,31 +29,21 @@ def many(size):
     return text + " " * (size - len(text) - 2) + "]}"
 
 
-def median(command, folder, text, status):
+def timed(command, folder, text, status):
     with open(os.path.join(folder, "script.json"), "w") as f:
         f.write(text)
-    taken = []
-    for _ in range(rounds):
-        before = time.monotonic()
-        code = subprocess.run(command, cwd=folder, stdout=subprocess.DEVNULL).returncode
-        taken.append(time.monotonic() - before)
-        if code != status:
-            sys.exit("status %d in place of %d" % (code, status))
-    return statistics.median(taken)
+    return median(command, folder, status)
 
 
 def main():
-    program = os.path.abspath(os.path.join(top, "crates", "devcore", "out", "devcore"))
-    if not os.path.exists(program):
-        subprocess.run([os.path.join(top, "bin", "devcore"), "--help"], stdout=subprocess.DEVNULL)
     with tempfile.TemporaryDirectory() as folder:
         with open(os.path.join(folder, "source.ppm"), "wb") as f:
             f.write(b"P6\n1 1\n255\n\x20\x20\x20")
-        command = [program, "develop", "script.json", "source.ppm", "out.ppm"]
-        empty = median(command, folder, '{"steps":[]}', 0)
+        command = [built(), "develop", "script.json", "source.ppm", "out.ppm"]
+        empty = timed(command, folder, '{"steps":[]}', 0)
         for name, text, status in [("full", full, 0), ("many", many, 2)]:
             for size in SIZES:
-                took = median(command, folder, text(size), status) - empty
+                took = timed(command, folder, text(size), status) - empty
                 print("%s  %4.2f MB  %7.1f ms  %6.1f ms a megabyte" % (name, size / 1048576, took * 1e3, took * 1e3 / (size / 1048576)))
 
 

@@ -6,11 +6,11 @@ and do all its modules, so with 61 instances of exposure in the opening history 
 lists are read whole and refused at their second event. Outside the gate. Needs Python 3; the program is built by
 bin/devcore.
 """
-import json, os, statistics, subprocess, sys, tempfile, time
+import json, os, sys, tempfile
 
-here = os.path.dirname(os.path.abspath(__file__))
-top = os.path.join(here, "..", "..")
-rounds = int(sys.argv[sys.argv.index("--rounds") + 1]) if "--rounds" in sys.argv else 5
+sys.path.insert(0, os.path.join(os.path.dirname(os.path.abspath(__file__)), ".."))
+from program import built, median
+
 CHANGES = [15, 60, 255]
 READ = [1_000, 10_000, 60_000]
 INSTANCES = 61
@@ -35,35 +35,25 @@ def replay(changes):
     return events + [["publish", 1], ["editor"]]
 
 
-def timed(program, folder, status):
-    before = time.monotonic()
-    code = subprocess.run([program, "stepped", "script.json", "source.ppm", "events.json"], cwd=folder, stdout=subprocess.DEVNULL).returncode
-    if code != status:
-        sys.exit("status %d in place of %d" % (code, status))
-    return time.monotonic() - before
-
-
-def median(program, folder, events, status):
-    with open(os.path.join(folder, "events.json"), "w") as f:
-        json.dump(events, f)
-    return statistics.median(timed(program, folder, status) for _ in range(rounds))
+def put(folder, name, value):
+    with open(os.path.join(folder, name), "w") as f:
+        json.dump(value, f)
 
 
 def main():
-    program = os.path.abspath(os.path.join(top, "crates", "devcore", "out", "devcore"))
-    if not os.path.exists(program):
-        subprocess.run([os.path.join(top, "bin", "devcore"), "--help"], stdout=subprocess.DEVNULL)
+    command = [built(), "stepped", "script.json", "source.ppm", "events.json"]
     with tempfile.TemporaryDirectory() as folder:
         with open(os.path.join(folder, "source.ppm"), "wb") as f:
             f.write(b"P6\n4 4\n255\n" + bytes(48))
         for changes in CHANGES:
-            with open(os.path.join(folder, "script.json"), "w") as f:
-                json.dump(script(changes), f)
             events = replay(changes)
-            took = median(program, folder, events, 0)
+            put(folder, "script.json", script(changes))
+            put(folder, "events.json", events)
+            took = median(command, folder, 0)
             print("%6d events replayed  %6.1f ms  %5.1f us an event" % (len(events), took * 1e3, took * 1e6 / len(events)))
         for count in READ:
-            took = median(program, folder, [["editor"], ["publish", 1]] + [["editor"]] * (count - 2), 4)
+            put(folder, "events.json", [["editor"], ["publish", 1]] + [["editor"]] * (count - 2))
+            took = median(command, folder, 4)
             print("%6d events read      %6.1f ms  %5.1f us an event" % (count, took * 1e3, took * 1e6 / count))
 
 
