@@ -5,7 +5,9 @@
 #![tactic(auto)]
 
 mod exposing;
+mod mixing;
 #[cfg(test)]
 mod tests;
 
 pub use exposing::exposure;
+pub use mixing::{mixer, mixer_in_turn};

@@ -1,9 +1,11 @@
 pub mod Area
+pub mod Bands
 pub mod Cut
 pub mod Kind
 pub mod Number
 pub mod Painted
 pub mod Picture
+pub mod Pixelwise
 pub mod PlaneFields
 pub mod Repainted
 pub mod Rows
