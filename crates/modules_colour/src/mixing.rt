@@ -25,7 +25,22 @@ fn weigh(factor: i32, part: u32) -> i32
     factor * part as i32
 }
 
-// One channel that comes out: its row of the matrix times a pixel.
+// A row of the matrix times parts of a pixel.
+#[inline(always)]
+fn weigh_pixel(by_red: i32, by_green: i32, by_blue: i32, r: u32, g: u32, b: u32) -> i32
+    requires by_red { unsigned_abs by_red ≤ 32768 }
+    requires by_green { unsigned_abs by_green ≤ 32768 }
+    requires by_blue { unsigned_abs by_blue ≤ 32768 }
+    requires red { r ≤ 4096 }
+    requires green { g ≤ 4096 }
+    requires blue { b ≤ 4096 }
+    ensures sum { result ≡ by_red *ℤ pos r +ℤ by_green *ℤ pos g +ℤ by_blue *ℤ pos b }
+    ensures small { unsigned_abs result ≤ 402653184 }
+{
+    weigh(by_red, r) + weigh(by_green, g) + weigh(by_blue, b)
+}
+
+// One channel that comes out: its row of the matrix times a pixel, by parts that fit 32 bits.
 #[inline(always)]
 fn mix(by_red: i32, by_green: i32, by_blue: i32, r: u32, g: u32, b: u32) -> u32
     requires by_red { unsigned_abs by_red ≤ 32768 }
@@ -35,10 +50,9 @@ fn mix(by_red: i32, by_green: i32, by_blue: i32, r: u32, g: u32, b: u32) -> u32
     requires green { g ≤ 1048575 }
     requires blue { b ≤ 1048575 }
     ensures value { result ≡ clamp (floor_div (by_red *ℤ pos r +ℤ by_green *ℤ pos g +ℤ by_blue *ℤ pos b) 4096) }
-    ensures top { result ≤ 1048575 }
 {
-    let high = weigh(by_red, r >> 8) + weigh(by_green, g >> 8) + weigh(by_blue, b >> 8);
-    let low = weigh(by_red, r & 255) + weigh(by_green, g & 255) + weigh(by_blue, b & 255);
+    let high = weigh_pixel(by_red, by_green, by_blue, r / 256, g / 256, b / 256);
+    let low = weigh_pixel(by_red, by_green, by_blue, r % 256, g % 256, b % 256);
     clamp_small(join_floor(high, low, 12))
 }
 

@@ -5,4 +5,4 @@ pub mod PaintedLemmas
 pub mod SampleLemmas
 pub mod EditLemmas
 pub mod NumberLemmas
-pub mod PixelLemmas
+pub mod MadeLemmas

@@ -1,5 +1,5 @@
 -- quotients at a scale, in two parts
-use Rattle.std.proofs.Common.{◌≡◌, ℕ, ◌+◌, ◌-◌, ◌*◌, ◌/◌, ◌^◌, ◌<◌, ◌≤◌, refl, sym, ap, ◌∙◌, arith}
+use Rattle.std.proofs.Common.{◌≡◌, ℕ, suc, ◌+◌, ◌-◌, ◌*◌, ◌/◌, ◌%◌, ◌^◌, ◌<◌, ◌≤◌, refl, sym, ap, ◌∙◌, arith}
 use Rattle.std.specs.Prelude.{ℤ, pos, negsuc, ◌+ℤ◌, ◌*ℤ◌, ◌≤ℤ◌, ◌<ℤ◌}
 use Rattle.std.proofs.lemmas.Int.{ints}
 use Rattle.std.proofs.lemmas.Nat.{pow-add}
@@ -32,3 +32,12 @@ floor_joined h l shift least =
     let whole : 8 + (shift - 8) ≡ shift = omega arith in
     let scale : 2 ^ shift ≡ 256 * 2 ^ (shift - 8) = ap (λ n. 2 ^ n) (sym whole) ∙ pow-add 2 8 (shift - 8) in
     rw (scale, floor_twice, floor_apart) refl
+
+-- a product with a natural number is that with its upper part and that with its lower one
+pub by_parts : (m : ℤ) (v : ℕ) → (m *ℤ pos (v / 256)) *ℤ pos 256 +ℤ m *ℤ pos (v % 256) ≡ m *ℤ pos v
+by_parts (pos a) v =
+    let whole : a * v ≡ a * (v / 256) * 256 + a * (v % 256) = (let e : v ≡ v / 256 * 256 + v % 256 = omega arith in ap (λ n. a * n) e ∙ omega arith) in
+    omega (arith, ints, whole)
+by_parts (negsuc a) v =
+    let whole : suc a * v ≡ suc a * (v / 256) * 256 + suc a * (v % 256) = (let e : v ≡ v / 256 * 256 + v % 256 = omega arith in ap (λ n. suc a * n) e ∙ omega arith) in
+    omega (arith, ints, whole)

@@ -1,5 +1,5 @@
 -- rectangles of pixels
-use Rattle.std.specs.Prelude.{ℕ, ◌+◌, ◌<◌, ◌≤◌}
+use Rattle.std.specs.Prelude.{ℕ, ◌+◌, ◌-◌, ◌<◌, ◌≤◌, min}
 
 -- the column and row of the first pixel, and how many columns and rows there are
 pub record Area : Type 0 where
@@ -40,3 +40,7 @@ pub record IsIn (a : Area) (w h : ℕ) : Type 0 where
 -- the whole of a picture of sides w and h
 abbrev pub whole_of : ℕ → ℕ → Area
 whole_of w h = record { x = 0; y = 0; w = w; h = h }
+
+-- the rectangle and so many columns and rows more on each side, as far as they lie in a picture of sides w and h
+abbrev pub grown : Area → ℕ → ℕ → ℕ → Area
+grown a by w h = record { x = a.x - by; y = a.y - by; w = min (a.x + a.w + by) w - (a.x - by); h = min (a.y + a.h + by) h - (a.y - by) }

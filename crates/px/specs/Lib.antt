@@ -9,3 +9,4 @@ pub mod Pixelwise
 pub mod PlaneFields
 pub mod Repainted
 pub mod Rows
+pub mod Sums

@@ -22,7 +22,7 @@ pub use banding::{BandFiller, fill_bands, paint_bands};
 pub use depth::Depth;
 pub use editing::repaint;
 pub use kind::{Cfa, Colour, PlaneKind};
-pub use number::{clamp_small, clamp_top, join_floor, mul_floor};
+pub use number::{clamp_small, clamp_top, join_floor, mul_floor, scale_floor};
 pub use painting::{paint, paint_in_turn};
 pub use plane::Plane;
 pub use region::Region;

@@ -38,6 +38,30 @@ pub fn join_floor(high: i32, low: i32, shift: u32) -> i32
     shift_floor(high + shift_floor(low, 8), shift - 8)
 }
 
+// A product that stays below 2^30.
+#[inline(always)]
+fn product(a: i32, b: u32) -> i32
+    requires left { unsigned_abs a ≤ 2097152 }
+    requires right { b ≤ 256 }
+    ensures product { result ≡ a *ℤ pos b }
+    ensures small { unsigned_abs result ≤ 536870912 }
+{
+    a * b as i32
+}
+
+/// `floor(a * b / 2^shift)`, rounded towards minus infinity, within 32 bits: the same as `mul_floor` for
+/// factors as small as the difference of two samples and a gain up to 16.
+#[inline(always)]
+pub fn scale_floor(a: i32, b: u32, shift: u32) -> i32
+    requires left { unsigned_abs a ≤ 2097152 }
+    requires right { b ≤ 65536 }
+    requires least { 8 ≤ shift }
+    requires most { shift ≤ 31 }
+    ensures { result ≡ floor_div (a *ℤ pos b) (2 ^ shift) }
+{
+    join_floor(product(a, b / 256), product(a, b % 256), shift)
+}
+
 /// The nearest value of a sample: at least 0 and at most `TOP`.
 pub fn clamp_top(v: i64) -> u32
     ensures { result ≡ clamp v }

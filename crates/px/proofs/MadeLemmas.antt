@@ -38,25 +38,34 @@ along p x y k c rgb left =
     let size : channels p.kind ≡ 3 = ap channels rgb in
     rw (size, column) (omega arith)
 
+-- a row of these values, three a pixel
+pub row_of_values : (value : ℕ → ℕ → ℕ → ℕ) (x y n : ℕ) (row : List ℕ) → ((k c : ℕ) → k < n → c < 3 → slice_index row (k * 3 + c) ≡ value (x + k) y c)
+    → ((i : ℕ) → slice_index row i ≤ 1048575) → IsRow (λ u v r. r ≡ value u v 0 ∷ value u v 1 ∷ value u v 2 ∷ []) x y 3 n row
+row_of_values value x y n row same top = record {
+  pixels = λ k below. record {
+    answer = value (x + k) y 0 ∷ value (x + k) y 1 ∷ value (x + k) y 2 ∷ [];
+    given = refl;
+    same = three (λ c. slice_index (value (x + k) y 0 ∷ value (x + k) y 1 ∷ value (x + k) y 2 ∷ []) c ≡ slice_index row (k * 3 + c))
+        (sym (same k 0 below (omega arith))) (sym (same k 1 below (omega arith))) (sym (same k 2 below (omega arith)));
+  };
+  top = top;
+}
+
+-- a value of a plane's row
+pub along_row : (p : Cut) (x y n k c : ℕ) (from : List ℕ) → p.kind ≡ Rgb → p.area.x ≤ x → ((i : ℕ) → i < n * 3 → slice_index from i ≡ slice_index p.values (place p x y + i))
+    → k < n → c < 3 → slice_index from (k * 3 + c) ≡ value_at p (x + k) y c
+along_row p x y n k c from rgb left read below d = read (k * 3 + c) (value_fits k n 3 c below d) ∙ ap (slice_index p.values) (along p x y k c rgb left)
+
 -- a row made of a plane's row is painted by pixels made of the plane's
 pub row_of_made : (f : ℕ → ℕ → ℕ → ℕ → ℕ) (p : Cut) (x y n : ℕ) (from row : List ℕ) → p.kind ≡ Rgb → p.area.x ≤ x
     → ((i : ℕ) → i < n * 3 → slice_index from i ≡ slice_index p.values (place p x y + i)) → IsMadeRow f n from row
     → IsRow (λ u v r. r ≡ made_of f (value_at p u v)) x y 3 n row
-row_of_made f p x y n from row rgb left read done = record {
-  pixels = λ k below.
-      let zero_in : k * 3 + 0 ≡ k * 3 = omega arith in
-      let at : (c : ℕ) → c < 3 → slice_index from (k * 3 + c) ≡ value_at p (x + k) y c =
-      (λ c d. read (k * 3 + c) (value_fits k n 3 c below d) ∙ ap (slice_index p.values) (along p x y k c rgb left)) in
-      let first : slice_index from (k * 3) ≡ value_at p (x + k) y 0 = ap (slice_index from) (sym zero_in) ∙ at 0 (omega arith) in
-      let one : (c : ℕ) → c < 3 → f c (value_at p (x + k) y 0) (value_at p (x + k) y 1) (value_at p (x + k) y 2) ≡ slice_index row (k * 3 + c) =
-      (λ c d. sym (done.made k c below d ∙ rw (first, at 1 (omega arith), at 2 (omega arith)) refl)) in
-      record {
-        answer = made_of f (value_at p (x + k) y);
-        given = refl;
-        same = three (λ c. slice_index (made_of f (value_at p (x + k) y)) c ≡ slice_index row (k * 3 + c)) (one 0 (omega arith)) (one 1 (omega arith)) (one 2 (omega arith));
-      };
-  top = done.top;
-}
+row_of_made f p x y n from row rgb left read done =
+    row_of_values (λ u v c. f c (value_at p u v 0) (value_at p u v 1) (value_at p u v 2)) x y n row (λ k c below d.
+    let at : (c : ℕ) → c < 3 → slice_index from (k * 3 + c) ≡ value_at p (x + k) y c = λ c d. along_row p x y n k c from rgb left read below d in
+    let zero_in : k * 3 + 0 ≡ k * 3 = omega arith in
+    let first : slice_index from (k * 3) ≡ value_at p (x + k) y 0 = ap (slice_index from) (sym zero_in) ∙ at 0 (omega arith) in
+    done.made k c below d ∙ rw (first, at 1 (omega arith), at 2 (omega arith)) refl) done.top
 
 -- a plane made of another's pixels is the cut of the picture made of that picture's pixels
 pub cut_of_made : (f : ℕ → ℕ → ℕ → ℕ → ℕ) (m q : Picture) (w h : ℕ) (input p : Cut) (a : Area) → w ≡ input.w → h ≡ input.h → input.kind ≡ Rgb → Covers input.area a
