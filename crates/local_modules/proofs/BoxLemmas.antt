@@ -27,13 +27,13 @@ pixel_of_whole r q p w h x y region made wide high part rgb covers inside here i
     let size : 3 ≡ channels q.kind = sym (ap channels rgb) in
     let box = window_covered r p.area region p.w p.h x y inside covers here in
     let same : (c : ℕ) → c < 3 → blurred r w h (value_at p) x y c ≡ blurred r q.w q.h q.at x y c = λ c below.
-        let channel : c < channels q.kind = rw (← size) below in
-        let sides : window r w h x y ≡ window r p.w p.h x y = rw (wide, high) refl in
-        let whole : window r p.w p.h x y ≡ window r q.w q.h x y = rw (part.wide, part.high) refl in
-        ap (mean_over (value_at p) c) sides
-          ∙ (ap (λ n. n / ((window r p.w p.h x y).w * (window r p.w p.h x y).h)) (area_same (λ u v. value_at p u v c) (λ u v. q.at u v c) (window r p.w p.h x y)
-            (λ u v within. part.same u v c (record { left = omega arith; right = omega arith; top = omega arith; bottom = omega arith }) channel))
-          ∙ ap (mean_over q.at c) whole) in
+    let channel : c < channels q.kind = rw (← size) below in
+    let sides : window r w h x y ≡ window r p.w p.h x y = rw (wide, high) refl in
+    let whole : window r p.w p.h x y ≡ window r q.w q.h x y = rw (part.wide, part.high) refl in
+    ap (mean_over (value_at p) c) sides
+    ∙ (ap (λ n. n / ((window r p.w p.h x y).w * (window r p.w p.h x y).h)) (area_same (λ u v. value_at p u v c) (λ u v. q.at u v c) (window r p.w p.h x y)
+    (λ u v within. part.same u v c (record { left = omega arith; right = omega arith; top = omega arith; bottom = omega arith }) channel))
+    ∙ ap (mean_over q.at c) whole) in
     is.pixel ∙ rw (same 0 (omega arith), same 1 (omega arith), same 2 (omega arith)) refl
 
 -- a painted plane has the shape that was asked for

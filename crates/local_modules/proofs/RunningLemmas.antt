@@ -103,7 +103,7 @@ place_is : (p : Cut) (lo v j c : ℕ) → p.kind ≡ Rgb → p.area.x ≤ lo →
 place_is p lo v j c rgb left =
     let size : channels p.kind ≡ 3 = ap channels rgb in
     let e : ((v - p.area.y) * p.area.w + (lo - p.area.x)) * 3 + (j * 3 + c) ≡ ((v - p.area.y) * p.area.w + (lo + j - p.area.x)) * 3 + c =
-        let s : lo + j - p.area.x ≡ lo - p.area.x + j = omega arith in rw s (omega arith) in
+    let s : lo + j - p.area.x ≡ lo - p.area.x + j = omega arith in rw s (omega arith) in
     ap (slice_index p.values) (e ∙ ap (λ n. ((v - p.area.y) * p.area.w + (lo + j - p.area.x)) * n + c) (sym size))
 
 -- the sums of three channels along a row, in places counted from column lo, are those of the picture
@@ -114,8 +114,8 @@ box_sum p lo n a b x e c sums rgb left small was low order fits =
     let start : lo + (x - lo) ≡ x = omega arith in
     let g = λ (u : ℕ). total (λ v. value_at p u v c) a (b - a) in
     rw count (total_same (channel sums c) (λ j. g (lo + j)) (x - lo) (e - x) (λ j from to.
-        was.same (j * 3 + c) (omega arith) ∙ total_same (λ v. flat p lo v (j * 3 + c)) (λ v. value_at p (lo + j) v c) a (b - a) (λ v top bottom. place_is p lo v j c rgb left))
-      ∙ (total_shift g lo (x - lo) (e - x) ∙ ap (λ s. total g s (e - x)) start))
+    was.same (j * 3 + c) (omega arith) ∙ total_same (λ v. flat p lo v (j * 3 + c)) (λ v. value_at p (lo + j) v c) a (b - a) (λ v top bottom. place_is p lo v j c rgb left))
+    ∙ (total_shift g lo (x - lo) (e - x) ∙ ap (λ s. total g s (e - x)) start))
 
 -- a box has a value at least
 pub some_in_box : (a b : ℕ) → 0 < a → 0 < b → 0 < a * b
@@ -136,7 +136,7 @@ blurred_is p r w h lo n a b x y c from to sums rgb left small was a_is b_is low 
     let t : to ≡ min (x + r + 1) w - lo = omega arith in
     let count : to - from ≡ min (x + r + 1) w - (x - r) = omega arith in
     let s : between (channel sums c) from to ≡ total (λ u. total (λ v. value_at p u v c) a (b - a)) (x - r) (min (x + r + 1) w - (x - r)) =
-        rw (f, t) (box_sum p lo n a b (x - r) (min (x + r + 1) w) c sums rgb left small was low (omega arith) (omega arith)) in
+    rw (f, t) (box_sum p lo n a b (x - r) (min (x + r + 1) w) c sums rgb left small was low (omega arith) (omega arith)) in
     ap (λ n. n / ((to - from) * (b - a))) s ∙ rw (count, b_is, a_is) refl
 
 pub three_small : (a b c : ℕ) → a ≤ 1048575 → b ≤ 1048575 → c ≤ 1048575 → (i : ℕ) → slice_index (a ∷ b ∷ c ∷ []) i ≤ 1048575

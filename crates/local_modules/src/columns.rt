@@ -43,7 +43,16 @@ fn take_row(sums: &mut [u32], row: &[u32])
 }
 
 // From the rows `a` up to `b` to the rows `c` up to `d`.
-pub(crate) fn move_rows(input: &Plane, lo: u32, m: u32, a: u32, b: u32, c: u32, d: u32, sums: &mut [u32])
+pub(crate) fn move_rows(
+    input: &Plane,
+    lo: u32,
+    m: u32,
+    a: u32,
+    b: u32,
+    c: u32,
+    d: u32,
+    sums: &mut [u32],
+)
     requires rgb { input.now.kind ≡ Rgb }
     requires first { a ≤ c }
     requires middle { c ≤ b }

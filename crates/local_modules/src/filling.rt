@@ -20,7 +20,17 @@ pub(crate) struct Reach {
 }
 
 // Writes `n` pixels of row `y`, from column `x` on, by the sums of the rows from `a` up to `b`.
-fn blur_row(_input: &Plane, s: Reach, a: u32, b: u32, x: u32, y: u32, n: u32, sums: &[u32], row: &mut [u32])
+fn blur_row(
+    _input: &Plane,
+    s: Reach,
+    a: u32,
+    b: u32,
+    x: u32,
+    y: u32,
+    n: u32,
+    sums: &[u32],
+    row: &mut [u32],
+)
     requires rgb { _input.now.kind ≡ Rgb }
     requires valid { (i : ℕ) → slice_index _input.now.values i ≤ 1048575 }
     requires left { _input.now.area.x ≤ s.lo }
@@ -62,7 +72,16 @@ fn blur_row(_input: &Plane, s: Reach, a: u32, b: u32, x: u32, y: u32, n: u32, su
 }
 
 // Writes `rows` rows of `cols` pixels.
-pub(crate) fn fill_rows(input: &Plane, s: Reach, x: u32, y: u32, cols: u32, rows: u32, sums: &mut [u32], values: &mut [u32])
+pub(crate) fn fill_rows(
+    input: &Plane,
+    s: Reach,
+    x: u32,
+    y: u32,
+    cols: u32,
+    rows: u32,
+    sums: &mut [u32],
+    values: &mut [u32],
+)
     requires rgb { input.now.kind ≡ Rgb }
     requires valid { (i : ℕ) → slice_index input.now.values i ≤ 1048575 }
     requires radius { s.r ≤ 64 }
@@ -92,6 +111,16 @@ pub(crate) fn fill_rows(input: &Plane, s: Reach, x: u32, y: u32, cols: u32, rows
         a = next;
         b = end;
         let at = j as usize * stride;
-        blur_row(input, s, next, end, x, y + j, cols, sums, &mut values[at..at + stride]);
+        blur_row(
+            input,
+            s,
+            next,
+            end,
+            x,
+            y + j,
+            cols,
+            sums,
+            &mut values[at..at + stride],
+        );
     }
 }

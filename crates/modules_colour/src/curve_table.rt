@@ -52,7 +52,7 @@ fn shared_or_made(
 
 impl CurveTable {
     /// The tables of the curves through these nodes.
-    pub(crate) fn of_nodes(
+    pub fn of_nodes(
         alloc: Global,
         red_nodes: &[(u32, u32)],
         green_nodes: &[(u32, u32)],

@@ -57,7 +57,14 @@ impl<'a> RowPainter for CurveRows<'a> {
         }
         let input = self.input;
         let table = self.table;
-        look_up_row(table.red(), table.green(), table.blue(), n, input.row(x, y, n), row);
+        look_up_row(
+            table.red(),
+            table.green(),
+            table.blue(),
+            n,
+            input.row(x, y, n),
+            row,
+        );
     }
 }
 
@@ -77,7 +84,15 @@ pub fn curve<R: Threads + Sync>(
     ensures cut { IfOk result (λ p. (params : Curves) (q : Picture) → IsTableOf params table.now → IsCutOf q input.now → IsCutOf (curved_picture params q) p) }
 {
     let (w, h) = input.sides();
-    paint(rt, alloc, PlaneKind::Rgb, w, h, region, &CurveRows { table, input })
+    paint(
+        rt,
+        alloc,
+        PlaneKind::Rgb,
+        w,
+        h,
+        region,
+        &CurveRows { table, input },
+    )
 }
 
 /// The same region, its rows one after another, as a band of a run makes it.
@@ -93,5 +108,12 @@ pub fn curve_in_turn(
     ensures cut { IfOk result (λ p. (params : Curves) (q : Picture) → IsTableOf params table.now → IsCutOf q input.now → IsCutOf (curved_picture params q) p) }
 {
     let (w, h) = input.sides();
-    paint_in_turn(alloc, PlaneKind::Rgb, w, h, region, &CurveRows { table, input })
+    paint_in_turn(
+        alloc,
+        PlaneKind::Rgb,
+        w,
+        h,
+        region,
+        &CurveRows { table, input },
+    )
 }

@@ -125,7 +125,15 @@ pub fn mixer<R: Threads + Sync>(
 {
     let (w, h) = input.sides();
     let mixer = params;
-    paint(rt, alloc, PlaneKind::Rgb, w, h, region, &MixerRows { mixer, input })
+    paint(
+        rt,
+        alloc,
+        PlaneKind::Rgb,
+        w,
+        h,
+        region,
+        &MixerRows { mixer, input },
+    )
 }
 
 /// The same region, its rows one after another, as a band of a run makes it.
@@ -143,5 +151,12 @@ pub fn mixer_in_turn(
 {
     let (w, h) = input.sides();
     let mixer = params;
-    paint_in_turn(alloc, PlaneKind::Rgb, w, h, region, &MixerRows { mixer, input })
+    paint_in_turn(
+        alloc,
+        PlaneKind::Rgb,
+        w,
+        h,
+        region,
+        &MixerRows { mixer, input },
+    )
 }
