@@ -3,3 +3,5 @@ pub mod ChunkLemmas
 pub mod PaintedLemmas
 pub mod SampleLemmas
 pub mod EditLemmas
+pub mod SumLemmas
+pub mod PixelLemmas
