@@ -5,3 +5,4 @@ pub mod SampleLemmas
 pub mod EditLemmas
 pub mod SumLemmas
 pub mod PixelLemmas
+pub mod MeanLemmas

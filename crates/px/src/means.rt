@@ -7,6 +7,7 @@ ghost use Rattle.px.specs.Means.{part, count_in, mean_in};
 ghost use Rattle.px.specs.Mosaic.{channel};
 ghost use Rattle.px.specs.Sums.{total};
 
+use crate::painting::rows_of;
 use crate::{Cfa, Colour, Plane, PlaneKind, Region};
 
 // The sum of `n` values of a list, from place `from` on, `step` places apart.
@@ -90,12 +91,12 @@ pub fn box_mean(plane: &Plane, block: Region, c: Colour) -> u32
     ensures mean { result ≡ mean_in plane.now.kind (value_at plane.now) (channel c) block }
     ensures top { result ≤ 1048575 }
 {
-    let c = c.channel();
-    let (x, w) = (block.x, block.w);
+    let channel = c.channel();
+    let rows = rows_of(block, 1);
     let mut sum = 0;
     let mut count = 0;
-    for j in 0..block.h {
-        let (part, number) = row_sum(plane, c, x, block.y + j, w);
+    for j in 0..rows.h {
+        let (part, number) = row_sum(plane, channel, rows.x, rows.y + j, rows.w);
         sum += part;
         count += number;
     }

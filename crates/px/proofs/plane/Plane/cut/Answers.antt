@@ -3,7 +3,7 @@ use Rattle.std.proofs.lemmas.Result.{IfOk-weaker}
 use Rattle.px.specs.Area.{HasPixel}
 use Rattle.px.proofs.PaintedLemmas.{cut_of_painted}
 use Rattle.px.proofs.PixelLemmas.{pixel_of_cut}
-use Rattle.px.proofs.copying.Plane.cut.Goals as goal
+use Rattle.px.proofs.plane.Plane.cut.Goals as goal
 
 pub returns-clause-cut : goal.returns-clause-cut
 returns-clause-cut c =
