@@ -6,3 +6,6 @@ pub mod SampleLemmas
 pub mod EditLemmas
 pub mod NumberLemmas
 pub mod MadeLemmas
+pub mod SumLemmas
+pub mod PixelLemmas
+pub mod MeanLemmas

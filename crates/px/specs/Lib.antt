@@ -1,7 +1,10 @@
 pub mod Area
 pub mod Bands
+pub mod Copied
 pub mod Cut
 pub mod Kind
+pub mod Means
+pub mod Mosaic
 pub mod Number
 pub mod Painted
 pub mod Picture

@@ -2,7 +2,7 @@
 ghost use Rattle.std.specs.Prelude.{◌≡◌, ℕ, ◌+◌, ◌*◌, ◌<◌, ◌≤◌, List, ◌++◌, length, OnOk, IfOk};
 ghost use Rattle.std.specs.Thread.{IsSync, IsSend};
 ghost use Rattle.px.specs.Area.{IsIn};
-ghost use Rattle.px.specs.Kind.{channels};
+ghost use Rattle.px.specs.Kind.{channels, least_side};
 ghost use Rattle.px.specs.Bands.{AsksRows, AsksBands, GivesShaped, HasRow, AreBands, IsFromBands};
 
 use crate::painting::{Rows, blank, rows_of};
@@ -204,6 +204,8 @@ pub fn paint_bands<R: Threads + Sync, F: Fn(Region) -> Result<Plane, AllocError>
     requires inside { IsIn region w h }
     requires wide { w ≤ 16384 }
     requires high { h ≤ 16384 }
+    requires wide_enough { least_side kind ≤ w }
+    requires high_enough { least_side kind ≤ h }
     requires asks { AsksBands region (F.pre make) }
     requires shaped { GivesShaped kind w h region (F.post make) }
     ensures { IfOk result (λ p. IsFromBands kind w h region (F.post make) p) }

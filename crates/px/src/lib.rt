@@ -6,9 +6,11 @@
 #![tactic(auto)]
 
 mod banding;
+mod copying;
 mod depth;
 mod editing;
 mod kind;
+mod means;
 mod number;
 mod painting;
 mod plane;
@@ -22,6 +24,7 @@ pub use banding::{BandFiller, fill_bands, paint_bands};
 pub use depth::Depth;
 pub use editing::repaint;
 pub use kind::{Cfa, Colour, PlaneKind};
+pub use means::box_mean;
 pub use number::{clamp_small, clamp_top, join_floor, mul_floor, scale_floor};
 pub use painting::{paint, paint_in_turn};
 pub use plane::Plane;

@@ -7,8 +7,8 @@ ghost use Rattle.px.specs.Kind.{channels};
 use crate::{PlaneKind, Region};
 use std::marker::Model;
 
-/// The values of one region of a picture: its kind, the whole picture's sides (1 to `SIDE` each), the
-/// region, and for each of its pixels, row by row, one value (mosaic) or three (RGB), each 0 to `TOP`.
+/// The values of one region of a picture: its kind, the whole picture's sides (1 to `SIDE` each, of a
+/// mosaic 2 to `SIDE`), the region, and for each of its pixels, row by row, one value (mosaic) or three (RGB), each 0 to `TOP`.
 #[derive(Debug, Drop)]
 pub struct Plane {
     kind: PlaneKind,
