@@ -5,7 +5,5 @@
 #![tactic(auto)]
 
 mod exposing;
-#[cfg(test)]
-mod tests;
 
 pub use exposing::exposure;

@@ -1,4 +1,4 @@
-use crate::{file_name, manifest};
+use publish::{file_name, manifest};
 use dev_core::Entry;
 use edit_steps::{Script, Settings};
 use history::History;

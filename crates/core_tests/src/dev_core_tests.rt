@@ -1,4 +1,4 @@
-use crate::{DeskState, NextStep, Roomy, Subject, is_built, make_frame};
+use dev_core::{DeskState, NextStep, Roomy, Subject, is_built, make_frame};
 use edit_steps::{Script, Settings};
 use history::History;
 use outside::{JobName, Pipe};

@@ -1,12 +1,12 @@
 ghost use Rattle.std.specs.Prelude.{◌≡◌, ℕ, ◌≤◌, false, [], ◌∷◌, ◌++◌, Some, is_ok, if◌then◌else◌};
 ghost use Rattle.turn_lock.specs.Known.{IsIdle};
 
-use crate::{Pass, Told, Turn, TurnLock};
 use std::alloc::{AllocError, Global};
 use std::sync::Wait;
 use std::test::Fail;
 use std::thread;
 use std::thread::Threads;
+use turn_lock::{Pass, Told, Turn, TurnLock};
 
 /// What one writer wrote.
 #[derive(Clone, Copy)]

@@ -1,4 +1,4 @@
-use crate::{Show, Source, Window, actives, are_built, shown_bytes, uncached};
+use pipe_nodes::{Show, Source, Window, actives, are_built, shown_bytes, uncached};
 use history::{Edit, History, Item};
 use params::{Exposure, Module, Params};
 use px::{Depth, Plane, PlaneKind, Region};

@@ -1,4 +1,4 @@
-use crate::{Edit, EditFault, History, Item, Kind};
+use history::{Edit, EditFault, History, Item, Kind};
 use module_order::{Order, Slot};
 use params::{
     Blend, ChannelMixer, Crop, Exposure, Field, Mode, Module, Nodes20, ParamFault, Params,

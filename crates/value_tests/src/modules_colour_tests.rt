@@ -1,4 +1,4 @@
-use crate::exposure;
+use modules_colour::exposure;
 use params::Exposure;
 use px::{Plane, PlaneKind, Region};
 use std::test::Fail;

@@ -3,7 +3,7 @@ ghost use Rattle.px.specs.declared.kind.PlaneKind.TheVariants.{Rgb};
 ghost use Rattle.px.specs.Area.{whole_of};
 ghost use Rattle.pipe_nodes.specs.Active.{IsFit};
 
-use crate::{Active, Piece, Prefix, Source, Staged, Steps, commit};
+use pipe_nodes::{Active, Piece, Prefix, Source, Staged, Steps, commit};
 use params::{Exposure, Params};
 use px::{Plane, PlaneKind, Region};
 use std::alloc::{AllocError, Global};

@@ -1,4 +1,4 @@
-use crate::{Answer, Event, EventsEnd, Outcome, read_events, step_one, stepped};
+use stepped::{Answer, Event, EventsEnd, Outcome, read_events, step_one, stepped};
 use dev_core::{Subject, is_built};
 use edit_steps::{Script, Settings};
 use history::History;

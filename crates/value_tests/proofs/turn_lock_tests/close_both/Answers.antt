@@ -1,7 +1,7 @@
 use Rattle.std.proofs.Common.{arith, ◌≡◌, [], ◌∷◌, ◌++◌, map, ap, ◌∙◌}
 use Rattle.std.specs.List.{range_with_len}
 use Rattle.turn_lock.proofs.Gathering.{all_in_order}
-use Rattle.turn_lock.proofs.tests.close_both.Goals as goal
+use Rattle.value_tests.proofs.turn_lock_tests.close_both.Goals as goal
 
 pub close-requires-clause-all : goal.close-requires-clause-all
 close-requires-clause-all c n below =

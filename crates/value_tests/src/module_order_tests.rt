@@ -1,4 +1,4 @@
-use crate::{MAX_SLOTS, Order, OrderFault, Slot};
+use module_order::{MAX_SLOTS, Order, OrderFault, Slot};
 use std::alloc::{AllocError, Global};
 use std::test::Fail;
 

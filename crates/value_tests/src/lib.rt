@@ -1,0 +1,12 @@
+//! The tests of the values: what no clause of their crates says, by public calls. A crate without
+//! tests of its own is proved once.
+#![tactic(auto)]
+
+#[cfg(test)]
+mod history_tests;
+#[cfg(test)]
+mod module_order_tests;
+#[cfg(test)]
+mod modules_colour_tests;
+#[cfg(test)]
+mod turn_lock_tests;
