@@ -5,6 +5,6 @@
 #[cfg(test)]
 mod dev_core_tests;
 #[cfg(test)]
-mod publish_tests;
-#[cfg(test)]
 mod stepped_tests;
+#[cfg(test)]
+mod subjects;

@@ -1,5 +1,5 @@
 //! Bytes as the table writes them: texts with escapes, and bytes in hexadecimal.
-ghost use Rattle.std.specs.Prelude.{◌≡◌, ◌≤◌, length, None, Some, IfSome};
+ghost use Rattle.std.specs.Prelude.{◌≤◌, length};
 
 use std::alloc::{AllocError, Global};
 use std::fmt::Write;
@@ -34,20 +34,23 @@ fn write_byte(text: &mut String, byte: u8) -> Result<(), AllocError> {
     }
 }
 
-// How many bytes of a picture its header has: three lines.
+// How many bytes the first line has, with its end.
+fn line_len(bytes: &[u8]) -> usize
+    ensures { result ≤ length bytes.now }
+{
+    match bytes.iter().position(|byte| *byte == b'\n') {
+        Some(place) => place + 1,
+        None => bytes.len(),
+    }
+}
+
+// How many bytes the header of a picture has, which is three lines.
 fn header_len(bytes: &[u8]) -> usize
     ensures { result ≤ length bytes.now }
 {
-    let mut lines = 0;
-    for (place, byte) in bytes.iter().enumerate() {
-        if *byte == b'\n' {
-            lines += 1;
-            if lines == 3 {
-                return place + 1;
-            }
-        }
-    }
-    bytes.len()
+    let magic = line_len(bytes);
+    let sides = magic + line_len(&bytes[magic..]);
+    sides + line_len(&bytes[sides..])
 }
 
 // How many bytes at the front are shown as text: of a picture its header, else all up to the first byte
@@ -66,7 +69,9 @@ fn text_len(bytes: &[u8]) -> usize
 
 // The sum of the bytes, which is the whole sum of all that a memory holds.
 fn sum_of(bytes: &[u8]) -> u64 {
-    bytes.iter().fold(0u64, |sum, byte| sum.saturating_add(u64::from(*byte)))
+    bytes
+        .iter()
+        .fold(0u64, |sum, byte| sum.saturating_add(u64::from(*byte)))
 }
 
 // Bytes that are no text: in hexadecimal, or where they are many as their count and their sum.
@@ -81,7 +86,11 @@ fn write_rest(text: &mut String, alloc: Global, rest: &[u8]) -> Result<(), Alloc
 }
 
 /// Writes bytes as a text and what follows it.
-pub(crate) fn write_bytes(text: &mut String, alloc: Global, bytes: &[u8]) -> Result<(), AllocError> {
+pub(crate) fn write_bytes(
+    text: &mut String,
+    alloc: Global,
+    bytes: &[u8],
+) -> Result<(), AllocError> {
     let (front, rest) = bytes.split_at(text_len(bytes));
     text.push('\'')?;
     for byte in front {

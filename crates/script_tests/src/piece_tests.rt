@@ -3,8 +3,8 @@ ghost use Rattle.px.specs.declared.kind.PlaneKind.TheVariants.{Rgb};
 ghost use Rattle.px.specs.Area.{whole_of};
 ghost use Rattle.pipe_nodes.specs.Active.{IsFit};
 
-use pipe_nodes::{Active, Piece, Prefix, Source, Staged, Steps, commit};
 use params::{Exposure, Params};
+use pipe_nodes::{Active, Piece, Prefix, Source, Staged, Steps, commit};
 use px::{Plane, PlaneKind, Region};
 use std::alloc::{AllocError, Global};
 use std::marker::Brand;
