@@ -59,6 +59,15 @@ impl<T> Undo<T> {
         &self.present
     }
 
+    /// The value that stands now, without its past and its future.
+    pub fn into_now(self) -> T
+    where
+        T: Drop,
+        ensures { result ≡ self.present }
+    {
+        self.present
+    }
+
     /// How often undo has somewhere to go.
     pub fn past(&self) -> u32
         ensures count { result ≡ length self.now.past }
