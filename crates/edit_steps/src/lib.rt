@@ -21,6 +21,3 @@ pub use step::Step;
 
 /// How many items the history has at most that a script begins with.
 pub const MAX_ITEMS: usize = 256;
-
-#[cfg(test)]
-mod tests;

@@ -3,31 +3,13 @@ use dev_core::Entry;
 use edit_steps::{Script, Settings};
 use history::History;
 use outside::Pipe;
-use px::{Depth, View};
 use std::alloc::Global;
 use std::test::Fail;
-
-const SETTINGS: Settings = Settings {
-    cfa: None,
-    depth: Depth::Eight,
-    preview_side: 720,
-    workers: 2,
-    stage_entries: 16,
-    stage_pixels: 8_388_608,
-    mip_slots: 4,
-    view: View {
-        factor: 1,
-        cx: 32_768,
-        cy: 32_768,
-        w: 720,
-        h: 480,
-    },
-};
 
 // A script without steps.
 fn no_steps(alloc: Global) -> Result<Script, Fail> {
     let history = History::start(alloc)?;
-    Ok(Script::of(alloc, SETTINGS, history, Vec::new(alloc))?)
+    Ok(Script::of(alloc, Settings::start(), history, Vec::new(alloc))?)
 }
 
 fn published(moment: u32) -> Entry {
