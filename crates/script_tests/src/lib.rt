@@ -3,6 +3,10 @@
 #![tactic(auto)]
 
 #[cfg(test)]
+mod edit_script_tests;
+#[cfg(test)]
+mod edit_steps_tests;
+#[cfg(test)]
 mod piece_tests;
 #[cfg(test)]
 mod pipe_nodes_tests;

@@ -10,3 +10,5 @@ mod module_order_tests;
 mod modules_colour_tests;
 #[cfg(test)]
 mod turn_lock_tests;
+#[cfg(test)]
+mod undo_stack_tests;

@@ -1,4 +1,5 @@
-use crate::{Reason, ScriptEnd, ScriptFault, read, write};
+use edit_script::{read, write};
+use edit_steps::{Reason, ScriptEnd, ScriptFault};
 use history::EditFault;
 use params::{Field, ParamFault};
 use std::alloc::{AllocError, Global};
@@ -30,7 +31,7 @@ fn repeated(alloc: Global, step: &str, count: u32) -> Result<String, AllocError>
     Ok(text)
 }
 
-const WITHOUT_FORM: [&str; 29] = [
+const WITHOUT_FORM: [&str; 33] = [
     "[]",
     "{}",
     "{\"steps\":{}}",
@@ -54,6 +55,10 @@ const WITHOUT_FORM: [&str; 29] = [
     "{\"steps\":[],\"settings\":{\"view\":{\"factor\":65,\"cx\":0,\"cy\":0,\"w\":1,\"h\":1}}}",
     "{\"steps\":[],\"settings\":{\"view\":{\"factor\":1,\"cx\":65537,\"cy\":0,\"w\":1,\"h\":1}}}",
     "{\"steps\":[],\"settings\":{\"view\":{\"factor\":1,\"cx\":0,\"cy\":0,\"w\":1024,\"h\":769}}}",
+    "{\"steps\":[],\"settings\":{\"undo_depth\":0}}",
+    "{\"steps\":[],\"settings\":{\"undo_depth\":65}}",
+    "{\"steps\":[],\"settings\":{\"second\":{\"factor\":1,\"cx\":0,\"cy\":0,\"w\":1}}}",
+    "{\"steps\":[],\"settings\":{\"second\":{\"factor\":1,\"cx\":0,\"cy\":0,\"w\":1024,\"h\":769}}}",
     "{\"steps\":[],\"history\":null}",
     "{\"steps\":[],\"history\":{\"items\":[],\"end\":0}}",
     "{\"steps\":[],\"history\":{\"items\":[],\"end\":65536,\"order\":[]}}",
@@ -62,10 +67,13 @@ const WITHOUT_FORM: [&str; 29] = [
     "{\"steps\":[],\"history\":{\"items\":[{\"module\":\"exposure\",\"params\":{\"black\":0,\"gain\":65537}},{}],\"end\":0,\"order\":[]}}",
 ];
 
-const STEPS_WITHOUT_FORM: [&str; 27] = [
+const STEPS_WITHOUT_FORM: [&str; 30] = [
     "[]",
     "{}",
-    "{\"do\":\"undo\"}",
+    "{\"do\":\"again\"}",
+    "{\"do\":\"undo\",\"end\":0}",
+    "{\"do\":\"redo\",\"factor\":1}",
+    "{\"do\":\"second\",\"factor\":0,\"cx\":0,\"cy\":0,\"w\":1,\"h\":1}",
     "{\"do\":\"settle\",\"depth\":8}",
     "{\"do\":\"compress\",\"end\":0}",
     "{\"do\":\"set\",\"module\":\"exposure\"}",
@@ -92,7 +100,7 @@ const STEPS_WITHOUT_FORM: [&str; 27] = [
     "{\"do\":\"thumbnail\",\"box\":[720,721]}",
 ];
 
-const REFUSED: [(&str, u32, Reason); 18] = [
+const REFUSED: [(&str, u32, Reason); 22] = [
     ("{", 0, Reason::Text),
     (
         "{\"steps\":[],\"history\":{\"items\":[{\"module\":\"exposure\",\"params\":{\"black\":0,\"gain\":65537}}],\"end\":9,\"order\":[[\"crop\",0]]}}",
@@ -203,16 +211,36 @@ const REFUSED: [(&str, u32, Reason); 18] = [
         2,
         Reason::Edit(EditFault::OrderRule),
     ),
+    (
+        "{\"steps\":[{\"do\":\"second\",\"factor\":2,\"cx\":32768,\"cy\":32768,\"w\":4,\"h\":4}]}",
+        1,
+        Reason::NoSecond,
+    ),
+    (
+        "{\"settings\":{\"undo_depth\":1},\"steps\":[{\"do\":\"compress\"},{\"do\":\"compress\"},{\"do\":\"undo\"},{\"do\":\"undo\"}]}",
+        4,
+        Reason::NothingToUndo,
+    ),
+    (
+        "{\"steps\":[{\"do\":\"compress\"},{\"do\":\"undo\"},{\"do\":\"compress\"},{\"do\":\"redo\"}]}",
+        4,
+        Reason::NothingToRedo,
+    ),
+    (
+        "{\"steps\":[{\"do\":\"add\",\"module\":\"exposure\",\"instance\":1,\"place\":8},{\"do\":\"undo\"},{\"do\":\"move\",\"module\":\"exposure\",\"instance\":1,\"place\":3}]}",
+        3,
+        Reason::Edit(EditFault::NoInstance),
+    ),
 ];
 
 const WHOLE: &str =
-    "{\"history\":{\"end\":1,\"items\":[{\"blend\":{\"mask\":{\"a\":4,\"b\":5,\"cx\":1,\"cy\":2,\"feather\":6,\"shape\":\"ellipse\",\"ux\":-1,\"uy\":0},\"mode\":\"screen\",\"opacity\":65536},\"enabled\":false,\"instance\":1,\"module\":\"tonecurve\",\"params\":{\"nodes\":[[0,0],[9,8]]}}],\"order\":[[\"rawprepare\",0],[\"temperature\",0],[\"demosaic\",0],[\"tonecurve\",1],[\"exposure\",0]]},\"settings\":{\"cfa\":\"GBRG\",\"depth\":16,\"mip_slots\":1,\"preview_side\":64,\"stage_entries\":1,\"stage_pixels\":0,\"view\":{\"cx\":0,\"cy\":65536,\"factor\":64,\"h\":48,\"w\":16384},\"workers\":4},\"steps\":[{\"blend\":null,\"do\":\"set\",\"enabled\":true,\"instance\":0,\"module\":\"exposure\",\"params\":{\"black\":-65535,\"gain\":65536}},{\"do\":\"select\",\"end\":1},{\"do\":\"add\",\"instance\":255,\"module\":\"crop\",\"place\":3},{\"do\":\"move\",\"instance\":255,\"module\":\"crop\",\"place\":5},{\"do\":\"delete\",\"instance\":255,\"module\":\"crop\"},{\"cx\":0,\"cy\":0,\"do\":\"view\",\"factor\":1,\"h\":1,\"w\":1},{\"box\":[16384,1],\"depth\":16,\"do\":\"export\"},{\"box\":[1,720],\"do\":\"thumbnail\"},{\"do\":\"compress\"},{\"do\":\"settle\"}]}";
+    "{\"history\":{\"end\":1,\"items\":[{\"blend\":{\"mask\":{\"a\":4,\"b\":5,\"cx\":1,\"cy\":2,\"feather\":6,\"shape\":\"ellipse\",\"ux\":-1,\"uy\":0},\"mode\":\"screen\",\"opacity\":65536},\"enabled\":false,\"instance\":1,\"module\":\"tonecurve\",\"params\":{\"nodes\":[[0,0],[9,8]]}}],\"order\":[[\"rawprepare\",0],[\"temperature\",0],[\"demosaic\",0],[\"tonecurve\",1],[\"exposure\",0]]},\"settings\":{\"cfa\":\"GBRG\",\"depth\":16,\"mip_slots\":1,\"preview_side\":64,\"second\":{\"cx\":65536,\"cy\":0,\"factor\":2,\"h\":1,\"w\":2},\"stage_entries\":1,\"stage_pixels\":0,\"undo_depth\":64,\"view\":{\"cx\":0,\"cy\":65536,\"factor\":64,\"h\":48,\"w\":16384},\"workers\":4},\"steps\":[{\"blend\":null,\"do\":\"set\",\"enabled\":true,\"instance\":0,\"module\":\"exposure\",\"params\":{\"black\":-65535,\"gain\":65536}},{\"do\":\"select\",\"end\":1},{\"do\":\"add\",\"instance\":255,\"module\":\"crop\",\"place\":3},{\"do\":\"move\",\"instance\":255,\"module\":\"crop\",\"place\":5},{\"do\":\"delete\",\"instance\":255,\"module\":\"crop\"},{\"cx\":0,\"cy\":0,\"do\":\"view\",\"factor\":1,\"h\":1,\"w\":1},{\"cx\":1,\"cy\":2,\"do\":\"second\",\"factor\":64,\"h\":3,\"w\":4},{\"do\":\"undo\"},{\"do\":\"redo\"},{\"box\":[16384,1],\"depth\":16,\"do\":\"export\"},{\"box\":[1,720],\"do\":\"thumbnail\"},{\"do\":\"compress\"},{\"do\":\"settle\"}]}";
 
 const LEAST: &str =
     "{\"steps\":[{\"do\":\"set\",\"module\":\"exposure\",\"params\":{\"gain\":1,\"black\":0}},{\"do\":\"export\"}]}";
 
 const LEAST_WITH_DEFAULTS: &str =
-    "{\"history\":{\"end\":0,\"items\":[],\"order\":[[\"rawprepare\",0],[\"temperature\",0],[\"demosaic\",0],[\"orientation\",0],[\"crop\",0],[\"exposure\",0],[\"channelmixer\",0],[\"tonecurve\",0]]},\"settings\":{\"cfa\":null,\"depth\":8,\"mip_slots\":4,\"preview_side\":720,\"stage_entries\":16,\"stage_pixels\":8388608,\"view\":{\"cx\":32768,\"cy\":32768,\"factor\":1,\"h\":480,\"w\":720},\"workers\":2},\"steps\":[{\"blend\":null,\"do\":\"set\",\"enabled\":true,\"instance\":0,\"module\":\"exposure\",\"params\":{\"black\":0,\"gain\":1}},{\"box\":null,\"depth\":8,\"do\":\"export\"}]}";
+    "{\"history\":{\"end\":0,\"items\":[],\"order\":[[\"rawprepare\",0],[\"temperature\",0],[\"demosaic\",0],[\"orientation\",0],[\"crop\",0],[\"exposure\",0],[\"channelmixer\",0],[\"tonecurve\",0]]},\"settings\":{\"cfa\":null,\"depth\":8,\"mip_slots\":4,\"preview_side\":720,\"second\":null,\"stage_entries\":16,\"stage_pixels\":8388608,\"undo_depth\":32,\"view\":{\"cx\":32768,\"cy\":32768,\"factor\":1,\"h\":480,\"w\":720},\"workers\":2},\"steps\":[{\"blend\":null,\"do\":\"set\",\"enabled\":true,\"instance\":0,\"module\":\"exposure\",\"params\":{\"black\":0,\"gain\":1}},{\"box\":null,\"depth\":8,\"do\":\"export\"}]}";
 
 #[test]
 fn values_without_the_form_are_told_apart_from_other_faults(rt: HostRuntime) -> Result<(), Fail> {

@@ -1,6 +1,6 @@
 use Rattle.std.proofs.Common.{refl}
 use Rattle.params.specs.Rules.{first_fault}
-use Rattle.edit_steps.proofs.tests.brighter.Goals as goal
+use Rattle.script_tests.proofs.edit_steps_tests.brighter.Goals as goal
 
 pub returns : goal.returns
 unfolding first_fault

@@ -1,23 +1,15 @@
 ghost use Rattle.std.specs.Prelude.{◌≤◌, IfOk};
 ghost use Rattle.std.specs.List.{All};
-ghost use Rattle.edit_steps.specs.Ranges.{IsStepWithin};
+ghost use Rattle.edit_steps.specs.Ranges.{IsSettings, IsStepWithin};
 ghost use Rattle.edit_steps.specs.Script.{changes};
 
-use crate::{Draft, Reason, Script, ScriptEnd, ScriptFault, Settings, Step};
+use edit_steps::{Draft, Reason, Script, ScriptEnd, ScriptFault, Settings, Step};
 use history::{Edit, EditFault, History, Item, Kinds};
 use outside::Pipe;
 use params::{Exposure, Field, Module, ParamFault, Params};
-use px::{Depth, View};
+use px::View;
 use std::alloc::{AllocError, Global};
 use std::test::Fail;
-
-const FIRST_VIEW: View = View {
-    factor: 1,
-    cx: 32_768,
-    cy: 32_768,
-    w: 720,
-    h: 480,
-};
 
 const NEXT_VIEW: View = View {
     factor: 2,
@@ -27,19 +19,8 @@ const NEXT_VIEW: View = View {
     h: 16_384,
 };
 
-const SETTINGS: Settings = Settings {
-    cfa: None,
-    depth: Depth::Eight,
-    preview_side: 720,
-    workers: 2,
-    stage_entries: 16,
-    stage_pixels: 8_388_608,
-    mip_slots: 4,
-    view: FIRST_VIEW,
-};
-
 fn start(alloc: Global) -> Result<Draft, AllocError> {
-    Draft::start(alloc, SETTINGS, History::start(alloc)?)
+    Draft::start(alloc, Settings::start(), History::start(alloc)?)
 }
 
 const ZOOMED: Kinds = Kinds {
@@ -116,13 +97,14 @@ fn brighter() -> Step
     }))
 }
 
-// An edit, a view and a settle.
-fn three_steps(alloc: Global) -> Result<Vec<Step>, AllocError>
+// An edit, a view, an undo and a settle.
+fn four_steps(alloc: Global) -> Result<Vec<Step>, AllocError>
     ensures { IfOk result (λ steps. All IsStepWithin steps.items) }
 {
-    let mut steps = Vec::with_capacity(alloc, 3)?;
+    let mut steps = Vec::with_capacity(alloc, 4)?;
     steps.push(brighter())?;
     steps.push(Step::View(NEXT_VIEW))?;
+    steps.push(Step::Undo)?;
     steps.push(Step::Settle)?;
     Ok(steps)
 }
@@ -134,18 +116,47 @@ fn items_at(alloc: Global, script: &Script, m: u32) -> Result<usize, AllocError>
 }
 
 #[test]
-fn a_view_leaves_the_history_and_concerns_the_full_pipe_alone(rt: HostRuntime) -> Result<(), Fail> {
+fn an_undo_leaves_the_view_and_concerns_every_pipe(rt: HostRuntime) -> Result<(), Fail> {
     let alloc = rt.alloc();
-    let script = Script::of(alloc, SETTINGS, History::start(alloc)?, three_steps(alloc)?)?;
-    assert!(rt; script.changes() == 2);
-    assert_eq!(rt; script.view_at(1), FIRST_VIEW);
-    assert_eq!(rt; script.view_at(2), NEXT_VIEW);
-    assert!(rt; script.kinds(0, 2).synch && script.kinds(0, 2).zoomed);
+    let history = History::start(alloc)?;
+    let script = Script::of(alloc, Settings::start(), history, four_steps(alloc)?)?;
+    assert!(rt; script.changes() == 3);
+    assert_eq!(rt; script.view_at(1), Settings::start().view);
+    assert_eq!(rt; script.view_at(3), NEXT_VIEW);
+    assert!(rt; script.kinds(0, 1).synch && !script.kinds(0, 1).remove);
     assert!(rt; script.kinds(1, 2) == ZOOMED);
-    assert!(rt; script.concerns(Pipe::Preview, 0, 2) && !script.concerns(Pipe::Preview, 1, 2));
-    assert!(rt; script.concerns(Pipe::Full, 1, 2) && !script.concerns(Pipe::Full, 2, 2));
-    assert_eq!(rt; items_at(alloc, &script, 0)?, 0);
-    assert_eq!(rt; items_at(alloc, &script, 2)?, 1);
+    assert!(rt; script.kinds(2, 3).remove);
+    assert!(rt; script.concerns(Pipe::Preview, 2, 3) && !script.concerns(Pipe::Preview, 1, 2));
+    assert!(rt; script.concerns(Pipe::Full, 1, 2) && !script.concerns(Pipe::Second, 1, 2));
+    assert_eq!(rt; items_at(alloc, &script, 1)?, 1);
+    assert_eq!(rt; items_at(alloc, &script, 3)?, 0);
+    Ok(())
+}
+
+// The settings of a session with a second window.
+fn with_window() -> Settings
+    ensures { IsSettings result }
+{
+    Settings {
+        second: Some(NEXT_VIEW),
+        ..Settings::start()
+    }
+}
+
+#[test]
+fn a_second_view_is_of_the_second_window_alone(rt: HostRuntime) -> Result<(), Fail> {
+    let alloc = rt.alloc();
+    let first = Settings::start().view;
+    let mut draft = Draft::start(alloc, with_window(), History::start(alloc)?)?;
+    draft.push(alloc, Step::Second(first))?;
+    let script = draft.finish();
+    assert!(rt; script.settings().has_pipe(Pipe::Second));
+    assert!(rt; !Settings::start().has_pipe(Pipe::Second));
+    assert!(rt; script.changes() == 1);
+    assert_eq!(rt; script.view_at(1), first);
+    assert!(rt; script.second_at(0) == Some(NEXT_VIEW) && script.second_at(1) == Some(first));
+    assert!(rt; script.kinds(0, 1) == ZOOMED);
+    assert!(rt; script.concerns(Pipe::Second, 0, 1) && !script.concerns(Pipe::Full, 0, 1));
     Ok(())
 }
 
@@ -158,6 +169,8 @@ fn a_reason_names_the_field_by_its_key(rt: HostRuntime) -> Result<(), Fail> {
     };
     let text = format!(in rt.alloc(); "{}", Reason::Param(fault))?;
     assert_eq!(rt; text.as_str(), "param flip_x -7");
+    let text = format!(in rt.alloc(); "{}", Reason::NoSecond)?;
+    assert_eq!(rt; text.as_str(), "no second window");
     Ok(())
 }
 
