@@ -7,3 +7,4 @@ pub mod Picture
 pub mod PlaneFields
 pub mod Repainted
 pub mod Rows
+pub mod Trace
