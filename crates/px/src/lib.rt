@@ -5,9 +5,11 @@
 //! is made by one of the few builders here, so that loops, places and threads stand in one crate.
 #![tactic(auto)]
 
+mod copying;
 mod depth;
 mod editing;
 mod kind;
+mod means;
 mod number;
 mod painting;
 mod plane;
@@ -21,6 +23,7 @@ mod view;
 pub use depth::Depth;
 pub use editing::repaint;
 pub use kind::{Cfa, Colour, PlaneKind};
+pub use means::box_mean;
 pub use number::{clamp_top, mul_floor};
 pub use painting::{paint, paint_in_turn};
 pub use plane::Plane;
