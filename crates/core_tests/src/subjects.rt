@@ -3,7 +3,6 @@ use dev_core::{Subject, is_built};
 use edit_steps::{Script, Settings};
 use history::History;
 use pipe_nodes::Source;
-use px::{Depth, View};
 use std::alloc::{AllocError, Global};
 use std::process::Abort;
 use std::sync::Arc;
@@ -12,28 +11,11 @@ use std::test::Fail;
 /// The picture, as bytes.
 pub(crate) const PIXEL: &[u8] = b"P6\n1 1\n255\n\x20\x20\x20";
 
-const SETTINGS: Settings = Settings {
-    cfa: None,
-    depth: Depth::Eight,
-    preview_side: 720,
-    workers: 2,
-    stage_entries: 16,
-    stage_pixels: 8_388_608,
-    mip_slots: 4,
-    view: View {
-        factor: 1,
-        cx: 32_768,
-        cy: 32_768,
-        w: 720,
-        h: 480,
-    },
-};
-
 /// The subject of the script and the picture.
 pub(crate) fn subject<R: Abort>(rt: &R, alloc: Global) -> Result<Arc<Subject>, Fail> {
     let plane = pnm::read(alloc, PIXEL)?;
     let source = Arc::new(alloc, Source::of(plane)).map_err(AllocError::from)?;
-    let script = Script::of(alloc, SETTINGS, History::start(alloc)?, Vec::new(alloc))?;
+    let script = Script::of(alloc, Settings::start(), History::start(alloc)?, Vec::new(alloc))?;
     assert!(rt; is_built(&script));
     Ok(Arc::new(alloc, Subject::of(source, script)).map_err(AllocError::from)?)
 }
