@@ -1,1 +1,4 @@
+pub mod Curving
 pub mod Exposing
+pub mod Mixing
+pub mod Stepping

@@ -4,6 +4,14 @@
 //! that cut of the whole output, whatever else the plane holds.
 #![tactic(auto)]
 
+mod channel_table;
+mod curve_table;
+mod curving;
 mod exposing;
+mod mixing;
+mod steps;
 
+pub use curve_table::CurveTable;
+pub use curving::{curve, curve_in_turn};
 pub use exposing::exposure;
+pub use mixing::{mixer, mixer_in_turn};

@@ -1,0 +1,4 @@
+pub mod CurveLemmas
+pub mod LineLemmas
+pub mod MixLemmas
+pub mod NodeLemmas
