@@ -1,0 +1,7 @@
+pub mod BlockLemmas
+pub mod CountLemmas
+pub mod MappedLemmas
+pub mod NineLemmas
+pub mod PairLemmas
+pub mod RangeLemmas
+pub mod WindowLemmas
