@@ -1,5 +1,5 @@
 -- blocks along a side
-use Rattle.std.proofs.Common.{◌≡◌, ℕ, zero, suc, ◌+◌, ◌-◌, ◌*◌, ◌/◌, ◌%◌, ◌<◌, ◌≤◌, ◌^◌, min, refl, sym, ap, ◌∙◌, ⊎_elim, arith}
+use Rattle.std.proofs.Common.{◌≡◌, ℕ, zero, suc, ◌+◌, ◌-◌, ◌*◌, ◌/◌, ◌%◌, ◌<◌, ◌≤◌, ◌^◌, min, lit≤, refl, sym, ap, ◌∙◌, ⊎_elim, arith}
 use Rattle.std.proofs.Math.Nat.{mul-le-mul_left, mul-le-mul_right}
 use Rattle.std.proofs.lemmas.Bool.{cases_lt}
 use Rattle.std.proofs.lemmas.Nat.{div-add-mod', div_below, mod_below}
@@ -24,15 +24,18 @@ size_small = level_cases (λ s. s ≤ 256) (omega arith) (omega arith) (omega ar
 pub size_some : (l : ℕ) → l ≤ 8 → 0 < 2 ^ l
 size_some = level_cases (λ s. 0 < s) (omega arith) (omega arith) (omega arith) (omega arith) (omega arith) (omega arith) (omega arith) (omega arith) (omega arith)
 
--- from level 2 on
-pub size_four : (l : ℕ) → suc (suc l) ≤ 8 → 2 ≤ 2 ^ suc (suc l)
-size_four l few = level_cases (λ s. 2 ≤ s * 4) (omega arith) (omega arith) (omega arith) (omega arith) (omega arith) (omega arith) (omega arith) (omega arith) (omega arith) l (omega arith)
-
 -- a level's blocks have at least two columns and rows
 pub size_two : (l : ℕ) → 1 ≤ l → l ≤ 8 → 2 ≤ 2 ^ l
-size_two (zero) low few = absurd (omega arith)
-size_two (suc zero) low few = omega arith
-size_two (suc (suc l)) low few = size_four l few
+size_two zero low few = absurd (omega arith)
+size_two (suc zero) low few = lit≤ tt
+size_two (suc (suc zero)) low few = lit≤ tt
+size_two (suc (suc (suc zero))) low few = lit≤ tt
+size_two (suc (suc (suc (suc zero)))) low few = lit≤ tt
+size_two (suc (suc (suc (suc (suc zero))))) low few = lit≤ tt
+size_two (suc (suc (suc (suc (suc (suc zero)))))) low few = lit≤ tt
+size_two (suc (suc (suc (suc (suc (suc (suc zero))))))) low few = lit≤ tt
+size_two (suc (suc (suc (suc (suc (suc (suc (suc zero)))))))) low few = lit≤ tt
+size_two (suc (suc (suc (suc (suc (suc (suc (suc (suc l))))))))) low few = absurd (omega arith)
 
 -- a block begins before the side ends
 pub block_below : (size n i : ℕ) → 0 < size → i < blocks size n → i * size < n

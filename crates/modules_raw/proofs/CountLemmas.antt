@@ -1,15 +1,22 @@
 -- each colour of a mosaic lies in any two of its columns and rows
-use Rattle.std.proofs.Common.{◌≡◌, ℕ, zero, suc, ◌+◌, ◌-◌, ◌*◌, ◌%◌, ◌<◌, ◌≤◌, ◌==◌, if◌then◌else◌, lit<, refl, sym, ap, ◌∙◌, subst, arith}
+use Rattle.std.proofs.Common.{◌≡◌, ℕ, zero, suc, ◌+◌, ◌-◌, ◌*◌, ◌%◌, ◌<◌, ◌≤◌, ◌==◌, if◌then◌else◌, lit<, lit≤, refl, sym, ap, ◌∙◌, subst, arith}
 use Rattle.px.specs.declared.kind.Cfa.{Cfa}
+use Rattle.px.specs.declared.kind.Colour.{Colour}
+use Rattle.px.specs.declared.kind.Colour.TheVariants.{R, G, B}
 use Rattle.px.specs.declared.kind.PlaneKind.{PlaneKind}
 use Rattle.px.specs.declared.kind.PlaneKind.TheVariants.{Mosaic, Rgb}
 use Rattle.px.specs.Area.{Area}
 use Rattle.px.specs.Kind.{least_side}
 use Rattle.px.specs.Means.{only, count_in}
-use Rattle.px.specs.Mosaic.{channel_at, channel_by}
+use Rattle.px.specs.Mosaic.{channel, channel_at, channel_by}
 use Rattle.px.specs.Sums.{total}
 use Rattle.px.proofs.RowLemmas.{three}
 use Rattle.modules_raw.proofs.NineLemmas.{shapes}
+
+pub channel_few : (c : Colour) → channel c < 3
+channel_few R = lit< tt
+channel_few G = lit< tt
+channel_few B = lit< tt
 
 total_more : (f : ℕ → ℕ) (a n k : ℕ) → total f a n ≤ total f a (k + n)
 total_more f a n zero = let e : 0 + n ≡ n = omega arith in rw e (omega arith)
@@ -19,15 +26,17 @@ total_one : (f : ℕ → ℕ) (a n : ℕ) → 1 ≤ n → f a ≤ total f a n
 total_one f a n some =
     let e : n - 1 + 1 ≡ n = omega arith in
     let z : a + 0 ≡ a = omega arith in
-    let one : f a ≡ total f a 1 = sym (ap f z) in
-    rw one (subst (λ m. total f a 1 ≤ total f a m) e (total_more f a 1 (n - 1)))
+    let first : f (a + 0) ≡ f a = ap f z in
+    let more : 0 + f (a + 0) ≤ total f a n = subst (λ m. total f a 1 ≤ total f a m) e (total_more f a 1 (n - 1)) in
+    omega arith
 
 total_two : (f : ℕ → ℕ) (a n : ℕ) → 2 ≤ n → f a + f (a + 1) ≤ total f a n
 total_two f a n some =
     let e : n - 2 + 2 ≡ n = omega arith in
     let z : a + 0 ≡ a = omega arith in
-    let two : f a + f (a + 1) ≡ total f a 2 = sym (ap (λ v. v + f (a + 1)) (ap f z)) in
-    rw two (subst (λ m. total f a 2 ≤ total f a m) e (total_more f a 2 (n - 2)))
+    let first : f (a + 0) ≡ f a = ap f z in
+    let more : 0 + f (a + 0) + f (a + 1) ≤ total f a n = subst (λ m. total f a 2 ≤ total f a m) e (total_more f a 2 (n - 2)) in
+    omega arith
 
 -- one of four channels is c
 abbrev pub found : ℕ → ℕ → ℕ → ℕ → ℕ → ℕ
@@ -49,6 +58,10 @@ each_near cfa c x y few =
     subst (λ q. 0 < found c (channel_by cfa (x % 2) (y % 2)) (channel_by cfa ((x + 1) % 2) (y % 2)) (channel_by cfa (x % 2) q) (channel_by cfa ((x + 1) % 2) q)) row
     (subst (λ p. 0 < found c (channel_by cfa (x % 2) (y % 2)) (channel_by cfa p (y % 2)) (channel_by cfa (x % 2) (1 - y % 2)) (channel_by cfa p (1 - y % 2))) column
     (each_found c few cfa (x % 2) (y % 2) (omega arith) (omega arith)))
+
+pub least_two : (kind : PlaneKind) → least_side kind ≤ 2
+least_two (Mosaic cfa) = lit≤ tt
+least_two Rgb = lit≤ tt
 
 -- a rectangle of two columns and rows has each colour of a mosaic, and any has each channel of what is RGB
 pub each_colour : (kind : PlaneKind) (c : ℕ) (a : Area) → c < 3 → least_side kind ≤ a.w → least_side kind ≤ a.h → 0 < count_in kind c a

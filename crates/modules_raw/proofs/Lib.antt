@@ -1,5 +1,6 @@
 pub mod BlockLemmas
 pub mod CountLemmas
+pub mod LevelLemmas
 pub mod MappedLemmas
 pub mod NineLemmas
 pub mod PairLemmas

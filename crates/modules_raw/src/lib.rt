@@ -9,7 +9,7 @@ mod balancing;
 mod channel_map;
 mod demosaicing;
 mod edges;
-mod level;
+mod levelling;
 mod levels;
 mod mapping;
 mod mosaic_rows;
@@ -18,7 +18,7 @@ mod source;
 
 pub use balancing::temperature;
 pub use demosaicing::demosaic;
-pub use level::level;
+pub use levelling::level;
 pub use levels::{level_of_preview, level_of_thumbnail, level_sides};
 pub use preparing::raw_prepare;
 pub use source::Source;

@@ -71,3 +71,7 @@ written_values w h values d = header w h (greatest d) ++ flat_map (sample_bytes 
 -- the bytes that a picture is written as
 abbrev pub written : Picture → Depth → List ℕ
 written q d = written_values q.w q.h (samples_of q) d
+
+-- each value above white cut at white
+abbrev pub whitened : Picture → Picture
+whitened q = record { kind = q.kind; w = q.w; h = q.h; at = λ x y c. min (q.at x y c) 65535 }

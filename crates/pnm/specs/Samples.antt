@@ -1,5 +1,5 @@
 -- samples and what they mean
-use Rattle.std.specs.Prelude.{◌≡◌, ℕ, ◌+◌, ◌-◌, ◌*◌, ◌/◌, ◌==◌, ◌<◌, nat_lt, min, Option, Some, None, List, slice_index, length, if◌then◌else◌}
+use Rattle.std.specs.Prelude.{◌≡◌, ℕ, ◌+◌, ◌-◌, ◌*◌, ◌/◌, ◌==◌, ◌<◌, ◌≤◌, ◌⊎◌, nat_lt, min, Option, Some, None, List, slice_index, length, if◌then◌else◌}
 use Rattle.px.specs.declared.kind.Cfa.{Cfa}
 use Rattle.px.specs.declared.kind.PlaneKind.{PlaneKind}
 use Rattle.px.specs.declared.kind.PlaneKind.TheVariants.{Mosaic, Rgb}
@@ -35,3 +35,11 @@ meaning Rgb top s = scaled top s
 pub record AreValues (kind : PlaneKind) (samples top count : ℕ) (raster values : List ℕ) : Type 0 where
   pub len : length values ≡ count * channels kind
   pub same : (i c : ℕ) → i < count → c < channels kind → slice_index values (i * channels kind + c) ≡ meaning kind top (sample_at top raster (i * samples + min c (samples - 1)))
+
+-- a raster of so many pixels, of one sample each, or of three of an RGB picture
+pub record IsRaster (kind : PlaneKind) (samples top count : ℕ) (raster : List ℕ) : Type 0 where
+  pub len : length raster ≡ count * samples * bytes_of_sample top
+  pub some : 0 < top
+  pub small : top ≤ 65535
+  pub few : count ≤ 25165824
+  pub shape : (samples ≡ 1) ⊎ ((samples ≡ 3) × (kind ≡ Rgb))

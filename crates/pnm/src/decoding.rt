@@ -1,8 +1,7 @@
 //! The values that a raster's samples mean.
 ghost use Rattle.std.specs.Prelude.{◌≡◌, ℕ, ◌+◌, ◌*◌, ◌<◌, ◌≤◌, length, slice_index, min, IfOk};
-ghost use Rattle.pnm.specs.Samples.{AreValues, bytes_of_sample, sample_at, scaled};
+ghost use Rattle.pnm.specs.Samples.{AreValues, IsRaster, bytes_of_sample, sample_at, scaled};
 
-use crate::header::Header;
 use px::PlaneKind;
 use std::alloc::{AllocError, Global};
 

@@ -1,8 +1,8 @@
 //! The header: its text as it is written, and what the bytes of a picture say of it.
-ghost use Rattle.std.specs.Prelude.{◌≡◌, ◌+◌, ◌-◌, ◌<◌, ◌≤◌, ◌||◌, nat_lt, Some, None, length, drop, slice_index, string_bytes, IfOk, MatchResult};
+ghost use Rattle.std.specs.Prelude.{◌≡◌, ◌+◌, ◌-◌, ◌<◌, ◌≤◌, ◌==◌, ◌&&◌, ◌||◌, nat_lt, Some, None, length, drop, slice_index, string_bytes, IfOk, MatchResult};
 ghost use Rattle.px.specs.Kind.{least_side};
 ghost use Rattle.pnm.specs.Fault.{fault_of, magic_fault, number_fault, raster_fault, sides_fault};
-ghost use Rattle.pnm.specs.Header.{HasRaster, HasSides, IsHeader, IsNumberDue};
+ghost use Rattle.pnm.specs.Header.{HasMagic, HasRaster, HasSides, IsHeader, IsNumberDue};
 ghost use Rattle.pnm.specs.Pnm.{header};
 ghost use Rattle.pnm.specs.Samples.{bytes_of_sample, read_kind, samples_of_magic};
 
@@ -56,17 +56,40 @@ fn fault_at(kind: PnmKind, total: usize, left: usize) -> PnmFault
     }
 }
 
+// A byte of the text, or 0 past its end.
+fn byte_or_zero(bytes: &[u8], i: usize) -> u8
+    ensures { result ≡ slice_index bytes.now i }
+{
+    if i < bytes.len() { bytes[i] } else { 0 }
+}
+
+// Whether two bytes are one of Netpbm's magics that aren't read here.
+fn is_other(first: u8, second: u8) -> bool
+    ensures { result ≡ (first == 80 && (second == 49 || second == 50 || second == 51 || second == 52 || second == 55)) }
+{
+    first == 80 && (second == 49 || second == 50 || second == 51 || second == 52 || second == 55)
+}
+
+// Whether two bytes are a magic that is read.
+fn is_read(first: u8, second: u8) -> bool
+    ensures { result ≡ (first == 80 && (second == 53 || second == 54)) }
+{
+    first == 80 && (second == 53 || second == 54)
+}
+
 // The second byte of a P5 or P6.
 fn magic_of(bytes: &[u8]) -> Result<u8, PnmFault>
-    ensures { MatchResult result (λ m. (magic_fault bytes.now ≡ None) × (m ≡ slice_index bytes.now 1) × (2 ≤ length bytes.now)) (λ f. magic_fault bytes.now ≡ Some f) }
+    ensures { MatchResult result (HasMagic bytes.now) (λ f. magic_fault bytes.now ≡ Some f) }
 {
-    match bytes {
-        [b'P', b'1' | b'2' | b'3' | b'4' | b'7', ..] => {
-            Err(fault_at(PnmKind::OtherForm, bytes.len(), bytes.len()))
-        }
-        [b'P', magic @ (b'5' | b'6'), ..] => Ok(*magic),
-        _ => Err(fault_at(PnmKind::BadMagic, bytes.len(), bytes.len())),
+    let first = byte_or_zero(bytes, 0);
+    let second = byte_or_zero(bytes, 1);
+    if is_other(first, second) {
+        return Err(fault_at(PnmKind::OtherForm, bytes.len(), bytes.len()));
     }
+    if !is_read(first, second) {
+        return Err(fault_at(PnmKind::BadMagic, bytes.len(), bytes.len()));
+    }
+    Ok(second)
 }
 
 // The number from 1 to `most` that is due behind a gap.

@@ -1,5 +1,5 @@
 //! The bytes that words of a header, and what stands between them, are made of.
-ghost use Rattle.std.specs.Prelude.{◌≡◌, ◌≤◌, false, drop, take, length, min};
+ghost use Rattle.std.specs.Prelude.{◌≡◌, ℕ, ◌≤◌, List, ◌∷◌, MatchOption, false, drop, take, length, min};
 ghost use Rattle.pnm.specs.Fault.{after_digits, after_filling, begins, front_digits};
 ghost use Rattle.pnm.specs.Grammar.{is_decimal, is_line_end, is_white, number_from, opens_gap};
 
@@ -68,6 +68,24 @@ pub(crate) fn begins_number(text: &[u8]) -> bool
     }
 }
 
+// Whether a comment goes on behind the byte, or nothing where the byte ends what stands between words.
+fn behind_byte(inside: bool, byte: u8) -> Option<bool>
+    ensures { MatchOption result
+        ((t : List ℕ) → after_filling inside (byte ∷ t) ≡ byte ∷ t)
+        (λ next. (t : List ℕ) → after_filling inside (byte ∷ t) ≡ after_filling next t) }
+{
+    if inside {
+        return Some(!is_line_end(byte));
+    }
+    if is_white(byte) {
+        return Some(false);
+    }
+    if byte == 35 {
+        return Some(true);
+    }
+    None
+}
+
 // How many bytes at the front of the text are white or in comments.
 pub(crate) fn filling_len(text: &[u8]) -> usize
     ensures within { result ≤ length text.now }
@@ -75,13 +93,10 @@ pub(crate) fn filling_len(text: &[u8]) -> usize
 {
     let mut inside = false;
     for (k, byte) in text.iter().enumerate() {
-        if inside {
-            inside = !is_line_end(*byte);
-        } else if *byte == 35 {
-            inside = true;
-        } else if !is_white(*byte) {
+        let Some(next) = behind_byte(inside, *byte) else {
             return k;
-        }
+        };
+        inside = next;
     }
     text.len()
 }

@@ -15,8 +15,6 @@ mod painting;
 mod plane;
 mod region;
 mod row_painter;
-#[cfg(test)]
-mod tests;
 mod view;
 
 pub use depth::Depth;

@@ -38,7 +38,7 @@ const NODE: Event = Event::Node { worker: 1 };
 
 // A script without steps over a pixel.
 fn subject<R: Abort>(rt: &R, alloc: Global) -> Result<Arc<Subject>, Fail> {
-    let plane = pnm::read(alloc, PIXEL)?;
+    let plane = pnm::read(alloc, PIXEL, None)?;
     let source = Arc::new(alloc, Source::of(plane)).map_err(AllocError::from)?;
     let script = Script::of(alloc, SETTINGS, History::start(alloc)?, Vec::new(alloc))?;
     assert!(rt; is_built(&script));

@@ -1,6 +1,8 @@
 ghost use Rattle.std.specs.Prelude.{ℕ, ◌≤◌, slice_index};
 
-use crate::{ByValue, Cfa, Plane, PlaneKind, Region, clamp_top, mul_floor, paint_in_turn, repaint};
+use px::{
+    ByValue, Cfa, Plane, PlaneKind, Region, clamp_top, mul_floor, paint_in_turn, repaint,
+};
 use std::test::Fail;
 
 #[test]
@@ -55,5 +57,18 @@ fn a_repainted_plane_has_what_its_closure_gives(rt: HostRuntime) -> Result<(), F
         ensures { (i : ℕ) → slice_index result i ≤ 1048575 }
     { [7, 8, 9] };
     assert!(rt; repaint(plane, &new).values() == [7, 8, 9, 7, 8, 9].as_slice());
+    Ok(())
+}
+
+// Columns 1 and 2 of row 1 of the 3x2 mosaic with the value 10 * row + column.
+#[test]
+fn a_cut_has_the_values_of_its_region(rt: HostRuntime) -> Result<(), Fail> {
+    let kind = PlaneKind::Mosaic(Cfa::Gbrg);
+    let values = vec![in rt.alloc(); 0, 1, 2, 10, 11, 12]?;
+    let plane = Plane::from_rows(kind, 3, 2, Region::whole(3, 2), values);
+    let region = Region::new(1, 1, 2, 1).ok_or("a region")?;
+    let cut = plane.cut(rt.alloc(), region)?;
+    assert_eq!(rt; cut.values(), [11, 12].as_slice());
+    assert!(rt; cut.kind() == kind);
     Ok(())
 }

@@ -1,0 +1,10 @@
+//! The tests of the values: what no clause of their crates says, by public calls. A crate without
+//! tests of its own is proved once.
+#![tactic(auto)]
+
+#[cfg(test)]
+mod modules_raw_tests;
+#[cfg(test)]
+mod pnm_tests;
+#[cfg(test)]
+mod px_tests;
