@@ -96,7 +96,7 @@ pub(crate) fn read_source<S: Shelf>(
     name: &str,
     front: usize,
 ) -> Result<Plane, Status>
-    requires long { 100000000 ≤ front }
+    requires front { front ≡ 268435456 }
     ensures source { IfOk result (λ p. IfSome (S.files shelf.old) (λ fs. HasSource name.now fs (picture_of p))) }
     ensures whole { IfOk result (λ p. IsWhole p) }
     ensures rgb { IfOk result (λ p. p.kind ≡ Rgb) }
@@ -106,7 +106,7 @@ pub(crate) fn read_source<S: Shelf>(
     ensures puts { NoneFalls (S.put_faults shelf.old) (S.put_faults shelf.new) }
 {
     let bytes = read_file(alloc, shelf, name, front)?;
-    match pnm::read(alloc, bytes.as_slice()) {
+    match pnm::read(alloc, bytes.as_slice(), None) {
         Ok(plane) => Ok(plane),
         Err(PnmEnd::Fault(_)) => Err(Status::NotYet {
             what: Input::Source,
@@ -127,7 +127,7 @@ pub(crate) fn read_small_source<S: Shelf>(
     name: &str,
     front: usize,
 ) -> Result<Plane, Status>
-    requires long { 100000000 ≤ front }
+    requires front { front ≡ 268435456 }
     ensures source { IfOk result (λ p. IfSome (S.files shelf.old) (λ fs. HasSource name.now fs (picture_of p))) }
     ensures whole { IfOk result (λ p. IsWhole p) }
     ensures rgb { IfOk result (λ p. p.kind ≡ Rgb) }

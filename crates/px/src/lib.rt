@@ -16,8 +16,6 @@ mod painting;
 mod plane;
 mod region;
 mod row_painter;
-#[cfg(test)]
-mod tests;
 mod trace;
 mod view;
 

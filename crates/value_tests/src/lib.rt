@@ -9,6 +9,12 @@ mod module_order_tests;
 #[cfg(test)]
 mod modules_colour_tests;
 #[cfg(test)]
+mod modules_raw_tests;
+#[cfg(test)]
+mod pnm_tests;
+#[cfg(test)]
+mod px_tests;
+#[cfg(test)]
 mod turn_lock_tests;
 #[cfg(test)]
 mod undo_stack_tests;
