@@ -11,11 +11,7 @@ use Rattle.px.specs.Picture.{Picture, rgb_of}
 use Rattle.px.specs.Sums.{area_total}
 use Rattle.local_modules.specs.Blurring.{window, mean_over, blurred, blurred_picture}
 use Rattle.local_modules.specs.Running.{IsBlurred}
-use Rattle.local_modules.proofs.RunningLemmas.{total_same}
-
-area_same : (f g : ℕ → ℕ → ℕ) (a : Area) → ((x y : ℕ) → HasPixel a x y → f x y ≡ g x y) → area_total f a ≡ area_total g a
-area_same f g a same = total_same _ _ a.x a.w (λ x left right. total_same _ _ a.y a.h (λ y top bottom.
-    same x y (record { left = left; right = right; top = top; bottom = bottom })))
+use Rattle.px.proofs.SumLemmas.{area_same}
 
 window_covered : (r : ℕ) (outer region : Area) (w h x y : ℕ) → IsIn region w h → Covers outer (grown region r w h) → HasPixel region x y → Covers outer (window r w h x y)
 window_covered r outer region w h x y inside covers here = record { left = omega arith; right = omega arith; top = omega arith; bottom = omega arith }

@@ -4,7 +4,8 @@ use Rattle.px.specs.Cut.{Cut, value_at}
 use Rattle.px.specs.declared.kind.PlaneKind.TheVariants.{Rgb}
 use Rattle.px.specs.Area.{Area, HasPixel}
 use Rattle.px.specs.Kind.{channels}
-use Rattle.px.specs.Sums.{total, area_total}
+use Rattle.px.specs.Sums.{total}
+use Rattle.px.proofs.SumLemmas.{total_same}
 use Rattle.std.proofs.lemmas.Nat.{mul-le}
 use Rattle.local_modules.specs.Blurring.{blurred}
 use Rattle.local_modules.specs.Running.{flat, between, AreColumns, channel}
@@ -36,13 +37,6 @@ total_small f a (suc n) m h =
     let before = total_small f a n m (λ i low high. h i low (omega arith)) in
     let last = h (a + n) (omega arith) (omega arith) in
     omega (arith, before, last)
-
-pub total_same : (f g : ℕ → ℕ) (a n : ℕ) → ((i : ℕ) → a ≤ i → i < a + n → f i ≡ g i) → total f a n ≡ total g a n
-total_same f g a zero same = refl
-total_same f g a (suc n) same =
-    let before = total_same f g a n (λ i low high. same i low (omega arith)) in
-    let last = same (a + n) (omega arith) (omega arith) in
-    rw (before, last) refl
 
 pub total_shift : (f : ℕ → ℕ) (lo a n : ℕ) → total (λ j. f (lo + j)) a n ≡ total f (lo + a) n
 total_shift f lo a zero = refl

@@ -49,7 +49,7 @@ fn mix(by_red: i32, by_green: i32, by_blue: i32, r: u32, g: u32, b: u32) -> u32
     requires red { r ≤ 1048575 }
     requires green { g ≤ 1048575 }
     requires blue { b ≤ 1048575 }
-    ensures value { result ≡ clamp (floor_div (by_red *ℤ pos r +ℤ by_green *ℤ pos g +ℤ by_blue *ℤ pos b) 4096) }
+    ensures { result ≡ clamp (floor_div (by_red *ℤ pos r +ℤ by_green *ℤ pos g +ℤ by_blue *ℤ pos b) 4096) }
 {
     let high = weigh_pixel(by_red, by_green, by_blue, r / 256, g / 256, b / 256);
     let low = weigh_pixel(by_red, by_green, by_blue, r % 256, g % 256, b % 256);
