@@ -52,7 +52,7 @@ same_area a b x y w h = λ i. record { x = x i; y = y i; w = w i; h = h i }
 pub record IsTurned (swap flip_x flip_y : Bool) (w h : ℕ) (out : Area) : Type 0 where
   pub region : flipped flip_x flip_y (w, h) (if swap then swapped out else out)
       ≡ between (mirrored flip_x w (if swap then out.y else out.x), mirrored flip_y h (if swap then out.x else out.y))
-        (mirrored flip_x w (if swap then out.y + out.h - 1 else out.x + out.w - 1), mirrored flip_y h (if swap then out.x + out.w - 1 else out.y + out.h - 1))
+      (mirrored flip_x w (if swap then out.y + out.h - 1 else out.x + out.w - 1), mirrored flip_y h (if swap then out.x + out.w - 1 else out.y + out.h - 1))
   pub has : (x y : ℕ) → HasPixel out x y → HasPixel (flipped flip_x flip_y (w, h) (if swap then swapped out else out)) (mirrored flip_x w (if swap then y else x)) (mirrored flip_y h (if swap then x else y))
   pub inside : IsIn (flipped flip_x flip_y (w, h) (if swap then swapped out else out)) w h
 

@@ -102,9 +102,9 @@ joined-through : (far near far_x far_y near_x near_y : Bool) (far_left far_top n
     → Traces (record { swap = near; flip_x = near_x; flip_y = near_y; add_x = near_left; add_y = near_top; level = other }) 0 0 x0 y0
     → Traces (record { swap = far; flip_x = far_x; flip_y = far_y; add_x = far_left; add_y = far_top; level = level }) x0 y0 u0 v0
     → IsThrough (record { swap = far; flip_x = far_x; flip_y = far_y; add_x = far_left; add_y = far_top; level = level })
-      (record { swap = near; flip_x = near_x; flip_y = near_y; add_x = near_left; add_y = near_top; level = other })
-      (joined (record { swap = far; flip_x = far_x; flip_y = far_y; add_x = far_left; add_y = far_top; level = level })
-       (record { swap = near; flip_x = near_x; flip_y = near_y; add_x = near_left; add_y = near_top; level = other }) u0 v0)
+    (record { swap = near; flip_x = near_x; flip_y = near_y; add_x = near_left; add_y = near_top; level = other })
+    (joined (record { swap = far; flip_x = far_x; flip_y = far_y; add_x = far_left; add_y = far_top; level = level })
+    (record { swap = near; flip_x = near_x; flip_y = near_y; add_x = near_left; add_y = near_top; level = other }) u0 v0)
 joined-through true true far_x far_y near_x near_y far_left far_top near_left near_top level other x0 y0 u0 v0 first second = record {
   level = refl;
   traces = λ x y a b u v near far. record {
@@ -140,6 +140,9 @@ through-joined outer inner x0 y0 u0 v0 first second =
 
 below_side : (z : ℤ) (n side : ℕ) → z ≡ pos n → IsOnSide z side → n < side
 below_side z n side is on = let here : IsOnSide (pos n) side = subst (λ y. IsOnSide y side) is on in omega (arith, ints)
+
+pub traced-below : (t : Trace) (x y u v w h : ℕ) → Traces t x y u v → TracesWithin t x y w h → (u < w) × (v < h)
+traced-below t x y u v w h traces within = (below_side (column_before t x y) u w traces.column within.column, below_side (row_before t x y) v h traces.row within.row)
 
 cast_small : (n : ℕ) → n < 16384 → pos n ≡ to_z w32 n
 cast_small n small = omega (arith, ints)
@@ -198,12 +201,12 @@ push-behind level sides modules p old out inner t within valid out_is inner_is t
   input = behind.input;
   out = out_is ∙ ap (sides_after p) behind.out ∙ sym (sides_behind-append modules p sides);
   places = λ x y pixel.
-    let now : IsPixelOf (sides_after p old.out) (x, y) = subst (λ (s : ℕ × ℕ). IsPixelOf s (x, y)) out_is pixel in
-    let b : ℕ × ℕ = pixel_before p old.out (x, y) in
-    let before : IsPixelOf old.out (b.0, b.1) = pixel_before-inside p old.out x y within valid.out now in
-    let place : ℕ × ℕ = place_behind modules sides (b.0, b.1) in
-    let traced : Traces t x y place.0 place.1 = through.traces x y b.0 b.1 place.0 place.1 (inner_is x y now) (behind.places b.0 b.1 before) in
-    let same : place ≡ place_behind (modules ++ p ∷ []) sides (x, y) =
-    ap (λ (s : ℕ × ℕ). place_behind modules sides (pixel_before p s (x, y))) behind.out ∙ sym (place_behind-append modules p sides (x, y)) in
-    subst (λ (q : ℕ × ℕ). Traces t x y q.0 q.1) same traced;
+      let now : IsPixelOf (sides_after p old.out) (x, y) = subst (λ (s : ℕ × ℕ). IsPixelOf s (x, y)) out_is pixel in
+      let b : ℕ × ℕ = pixel_before p old.out (x, y) in
+      let before : IsPixelOf old.out (b.0, b.1) = pixel_before-inside p old.out x y within valid.out now in
+      let place : ℕ × ℕ = place_behind modules sides (b.0, b.1) in
+      let traced : Traces t x y place.0 place.1 = through.traces x y b.0 b.1 place.0 place.1 (inner_is x y now) (behind.places b.0 b.1 before) in
+      let same : place ≡ place_behind (modules ++ p ∷ []) sides (x, y) =
+      ap (λ (s : ℕ × ℕ). place_behind modules sides (pixel_before p s (x, y))) behind.out ∙ sym (place_behind-append modules p sides (x, y)) in
+      subst (λ (q : ℕ × ℕ). Traces t x y q.0 q.1) same traced;
 }

@@ -15,13 +15,7 @@ pub fn roi_out(params: &Params, w: u32, h: u32) -> (u32, u32)
     ensures valid { Fits 0 0 result.0 result.1 }
 {
     match params {
-        Params::Orientation(orientation) => {
-            if orientation.swap {
-                (h, w)
-            } else {
-                (w, h)
-            }
-        }
+        Params::Orientation(orientation) => { if orientation.swap { (h, w) } else { (w, h) } }
         Params::Crop(crop) => {
             let kept = kept_region(crop, w, h);
             (kept.w, kept.h)

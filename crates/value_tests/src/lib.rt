@@ -3,7 +3,15 @@
 #![tactic(auto)]
 
 #[cfg(test)]
+mod curve_tests;
+#[cfg(test)]
+mod geometry_tests;
+#[cfg(test)]
 mod history_tests;
+#[cfg(test)]
+mod local_modules_tests;
+#[cfg(test)]
+mod mixer_tests;
 #[cfg(test)]
 mod module_order_tests;
 #[cfg(test)]

@@ -2,6 +2,7 @@ use Rattle.std.proofs.Common.{◌≡◌, ℕ, ◌+◌, ◌-◌, sym, subst, ◌�
 use Rattle.px.specs.Area.{Area, IsIn}
 use Rattle.geometry.specs.Sides.{sides_after}
 use Rattle.geometry.specs.Needed.{needed, Suffices}
+use Rattle.geometry.proofs.TraceLemmas.{traced-below}
 use Rattle.geometry.proofs.NeededLemmas.{corner-within, first-pixel, last-pixel, needed-between, traced_area, traced-suffices, IsTracedArea}
 use Rattle.geometry.proofs.needed.traced.Goals as goal
 
@@ -10,14 +11,30 @@ of-first-requires c =
     let sides : ℕ × ℕ = (c.args.w, c.args.h) in
     let out : Area = record { x = c.out.inside.x; y = c.out.inside.y; w = c.out.inside.w; h = c.out.inside.h } in
     let inside = subst (λ a. IsIn a (sides_after c.args.params.now sides).0 (sides_after c.args.params.now sides).1) (sym c.out.view_is) c.requires.inside in
-    corner-within c.args.params.now sides out c.trace_of-trace.result out.x out.y c.requires.within c.requires.sides inside c.trace_of-trace.ensures (first-pixel out c.out.invariant)
+    record { within = corner-within c.args.params.now sides out c.trace_of-trace.result out.x out.y c.requires.within c.requires.sides inside c.trace_of-trace.ensures (first-pixel out c.out.invariant) }
 
 pub of-last-requires : goal.of-last-requires
 of-last-requires c =
     let sides : ℕ × ℕ = (c.args.w, c.args.h) in
     let out : Area = record { x = c.out.inside.x; y = c.out.inside.y; w = c.out.inside.w; h = c.out.inside.h } in
     let inside = subst (λ a. IsIn a (sides_after c.args.params.now sides).0 (sides_after c.args.params.now sides).1) (sym c.out.view_is) c.requires.inside in
-    corner-within c.args.params.now sides out c.trace_of-trace.result (out.x + out.w - 1) (out.y + out.h - 1) c.requires.within c.requires.sides inside c.trace_of-trace.ensures (last-pixel out c.out.invariant)
+    record { within = corner-within c.args.params.now sides out c.trace_of-trace.result (out.x + out.w - 1) (out.y + out.h - 1) c.requires.within c.requires.sides inside c.trace_of-trace.ensures (last-pixel out c.out.invariant) }
+
+pub between-requires-clause-first : goal.between-requires-clause-first
+between-requires-clause-first c =
+    let sides : ℕ × ℕ = (c.args.w, c.args.h) in
+    let out : Area = record { x = c.out.inside.x; y = c.out.inside.y; w = c.out.inside.w; h = c.out.inside.h } in
+    let inside = subst (λ a. IsIn a (sides_after c.args.params.now sides).0 (sides_after c.args.params.now sides).1) (sym c.out.view_is) c.requires.inside in
+    traced-below c.trace_of-trace.result out.x out.y c.of-first.result.0 c.of-first.result.1 16384 16384 c.of-first.ensures
+    (corner-within c.args.params.now sides out c.trace_of-trace.result out.x out.y c.requires.within c.requires.sides inside c.trace_of-trace.ensures (first-pixel out c.out.invariant))
+
+pub between-requires-clause-last : goal.between-requires-clause-last
+between-requires-clause-last c =
+    let sides : ℕ × ℕ = (c.args.w, c.args.h) in
+    let out : Area = record { x = c.out.inside.x; y = c.out.inside.y; w = c.out.inside.w; h = c.out.inside.h } in
+    let inside = subst (λ a. IsIn a (sides_after c.args.params.now sides).0 (sides_after c.args.params.now sides).1) (sym c.out.view_is) c.requires.inside in
+    traced-below c.trace_of-trace.result (out.x + out.w - 1) (out.y + out.h - 1) c.of-last.result.0 c.of-last.result.1 16384 16384 c.of-last.ensures
+    (corner-within c.args.params.now sides out c.trace_of-trace.result (out.x + out.w - 1) (out.y + out.h - 1) c.requires.within c.requires.sides inside c.trace_of-trace.ensures (last-pixel out c.out.invariant))
 
 pub returns : goal.returns
 returns c =
