@@ -1,1 +1,2 @@
 pub mod Exposing
+pub mod Old

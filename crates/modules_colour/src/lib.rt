@@ -5,7 +5,9 @@
 #![tactic(auto)]
 
 mod exposing;
+mod migrating;
 #[cfg(test)]
 mod tests;
 
 pub use exposing::exposure;
+pub use migrating::migrate_same;

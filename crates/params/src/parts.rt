@@ -28,10 +28,8 @@ impl<'a> Parts<'a> {
         ensures value { take self.new.count self.new.parts ≡ take self.old.count self.old.parts ++ part.entry ∷ [] }
         ensures count { self.new.count ≡ self.old.count + 1 }
     {
-        let count = self.count;
-        let parts = &mut self.parts[..];
-        parts[count] = part;
-        self.count = count + 1;
+        self.parts[self.count] = part;
+        self.count += 1;
     }
 
     /// The parts of the list.
