@@ -120,3 +120,7 @@ rows_more post x y w size j at k values row was new at_is k_is len fits =
           (cases_lt i (at + k)))
           (cases_lt i at);
     }
+
+-- n pixels of a row lie within h rows of w
+pub run_fits : (j h k n w size : ℕ) → j < h → k + n ≤ w → (j * w + k) * size + n * size ≤ (h * w) * size
+run_fits j h k n w size below right = omega (arith, row_fits j h w size below, mul-le-mul_left size right)

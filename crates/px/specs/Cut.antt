@@ -2,7 +2,7 @@
 use Rattle.std.specs.Prelude.{◌≡◌, ℕ, ◌+◌, ◌-◌, ◌*◌, ◌<◌, ◌≤◌, List, [], ◌∷◌, length, slice_index}
 use Rattle.px.specs.declared.kind.PlaneKind.{PlaneKind}
 use Rattle.px.specs.Area.{Area, IsArea, IsIn, HasPixel, whole_of}
-use Rattle.px.specs.Kind.{channels}
+use Rattle.px.specs.Kind.{channels, least_side}
 use Rattle.px.specs.Picture.{Picture}
 
 -- a picture's kind and sides, a region of it, and the values of that region, row by row
@@ -31,6 +31,8 @@ pub record IsPlane (p : Cut) : Type 0 where
   pub inside : IsIn p.area p.w p.h
   pub wide : p.w ≤ 16384
   pub high : p.h ≤ 16384
+  pub wide_enough : least_side p.kind ≤ p.w
+  pub high_enough : least_side p.kind ≤ p.h
   pub len : length p.values ≡ (p.area.h * p.area.w) * channels p.kind
   pub top : (i : ℕ) → slice_index p.values i ≤ 1048575
 

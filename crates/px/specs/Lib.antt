@@ -1,9 +1,16 @@
 pub mod Area
+pub mod Bands
+pub mod Copied
 pub mod Cut
 pub mod Kind
+pub mod Means
+pub mod Mosaic
 pub mod Number
 pub mod Painted
 pub mod Picture
+pub mod Pixelwise
 pub mod PlaneFields
 pub mod Repainted
 pub mod Rows
+pub mod Trace
+pub mod Sums

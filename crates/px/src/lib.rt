@@ -5,26 +5,31 @@
 //! is made by one of the few builders here, so that loops, places and threads stand in one crate.
 #![tactic(auto)]
 
+mod banding;
+mod copying;
 mod depth;
 mod editing;
 mod kind;
+mod means;
 mod number;
 mod painting;
 mod plane;
 mod region;
 mod row_painter;
-#[cfg(test)]
-mod tests;
+mod trace;
 mod view;
 
+pub use banding::{BandFiller, fill_bands, paint_bands};
 pub use depth::Depth;
 pub use editing::repaint;
 pub use kind::{Cfa, Colour, PlaneKind};
-pub use number::{clamp_top, mul_floor};
+pub use means::box_mean;
+pub use number::{clamp_small, clamp_top, join_floor, mul_floor, scale_floor};
 pub use painting::{paint, paint_in_turn};
 pub use plane::Plane;
 pub use region::Region;
 pub use row_painter::{ByPixel, ByValue, RowPainter};
+pub use trace::Trace;
 pub use view::{BoxSize, View};
 
 /// The greatest value of a sample. White stands at `WHITE`; what is above it is kept for later

@@ -2,7 +2,7 @@
 //! values and the threads stand here.
 ghost use Rattle.std.specs.Prelude.{◌≡◌, ℕ, ◌+◌, ◌*◌, ◌/◌, ◌<◌, ◌≤◌, length, slice_index, IfOk, vec_len};
 ghost use Rattle.px.specs.Area.{IsIn, Fits};
-ghost use Rattle.px.specs.Kind.{channels};
+ghost use Rattle.px.specs.Kind.{channels, least_side};
 ghost use Rattle.px.specs.Painted.{AsksIn, GivesTop, IsPainted, IsRow, AreRows};
 ghost use Rattle.px.specs.Rows.{area_of};
 
@@ -111,7 +111,7 @@ pub(crate) fn rows_of(region: Region, size: usize) -> Rows
 }
 
 // Values for so many rows, not painted yet.
-fn blank(alloc: Global, rows: Rows) -> Result<Vec<u32>, AllocError>
+pub(crate) fn blank(alloc: Global, rows: Rows) -> Result<Vec<u32>, AllocError>
     requires small { rows.size ≤ 3 }
     requires right { rows.x + rows.w ≤ 16384 }
     requires bottom { rows.y + rows.h ≤ 16384 }
@@ -137,6 +137,8 @@ pub fn paint<R: Threads + Sync, P: RowPainter + Sync>(
     requires inside { IsIn region w h }
     requires wide { w ≤ 16384 }
     requires high { h ≤ 16384 }
+    requires wide_enough { least_side kind ≤ w }
+    requires high_enough { least_side kind ≤ h }
     requires asks { AsksIn region (P.asks painter.now) }
     requires gives { GivesTop region (P.gives painter.now) }
     ensures { IfOk result (λ p. IsPainted kind w h region (P.gives painter.now) p) }
@@ -160,6 +162,8 @@ pub fn paint_in_turn<P: RowPainter>(
     requires inside { IsIn region w h }
     requires wide { w ≤ 16384 }
     requires high { h ≤ 16384 }
+    requires wide_enough { least_side kind ≤ w }
+    requires high_enough { least_side kind ≤ h }
     requires asks { AsksIn region (P.asks painter.now) }
     requires gives { GivesTop region (P.gives painter.now) }
     ensures { IfOk result (λ p. IsPainted kind w h region (P.gives painter.now) p) }

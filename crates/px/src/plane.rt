@@ -1,4 +1,4 @@
-ghost use Rattle.std.specs.Prelude.{◌≡◌, ℕ, ◌+◌, ◌<◌, ◌≤◌, List, [], ◌∷◌, length, slice_index};
+ghost use Rattle.std.specs.Prelude.{◌≡◌, ℕ, ◌+◌, ◌*◌, ◌<◌, ◌≤◌, List, [], ◌∷◌, length, slice_index};
 ghost use Rattle.px.specs.declared.kind.PlaneKind.TheVariants.{Mosaic, Rgb};
 ghost use Rattle.px.specs.Area.{IsIn, HasPixel};
 ghost use Rattle.px.specs.Cut.{Cut, IsPlane, place, rgb_at, value_at};
@@ -7,8 +7,8 @@ ghost use Rattle.px.specs.Kind.{channels};
 use crate::{PlaneKind, Region};
 use std::marker::Model;
 
-/// The values of one region of a picture: its kind, the whole picture's sides (1 to `SIDE` each), the
-/// region, and for each of its pixels, row by row, one value (mosaic) or three (RGB), each 0 to `TOP`.
+/// The values of one region of a picture: its kind, the whole picture's sides (1 to `SIDE` each, of a
+/// mosaic 2 to `SIDE`), the region, and for each of its pixels, row by row, one value (mosaic) or three (RGB), each 0 to `TOP`.
 #[derive(Debug, Drop)]
 pub struct Plane {
     kind: PlaneKind,
@@ -92,6 +92,21 @@ impl Plane {
     {
         ((y - self.region.y) as usize * self.region.w as usize + (x - self.region.x) as usize)
             * size
+    }
+
+    /// The values of `n` pixels of row `y`, from column `x` on.
+    pub fn row(&self, x: u32, y: u32, n: u32) -> &[u32]
+        requires first { HasPixel self.now.area x y }
+        requires last { x + n ≤ self.now.area.x + self.now.area.w }
+        ensures values { (i : ℕ) → i < n * channels self.now.kind → slice_index result.now i ≡ slice_index self.now.values (place self.now x y + i) }
+        ensures len { length result.now ≡ n * channels self.now.kind }
+        ensures top { (i : ℕ) → slice_index result.now i ≤ 1048575 }
+    {
+        let size = self.kind().channels();
+        let values = self.values();
+        let from = self.place(x, y, size);
+        let to = from + n as usize * size;
+        &values[from..to]
     }
 
     /// The value of a mosaic's pixel in column `x` and row `y` of the whole picture.
