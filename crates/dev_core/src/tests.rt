@@ -14,7 +14,12 @@ const PIXEL: &[u8] = b"P6\n1 1\n255\n\x14\x14\x14";
 fn subject<R: Abort>(rt: &R, alloc: Global) -> Result<Arc<Subject>, Fail> {
     let plane = pnm::read(alloc, PIXEL)?;
     let source = Arc::new(alloc, Source::of(plane)).map_err(AllocError::from)?;
-    let script = Script::of(alloc, Settings::start(), History::start(alloc)?, Vec::new(alloc))?;
+    let script = Script::of(
+        alloc,
+        Settings::start(),
+        History::start(alloc)?,
+        Vec::new(alloc),
+    )?;
     assert!(rt; is_built(&script));
     Ok(Arc::new(alloc, Subject::of(source, script)).map_err(AllocError::from)?)
 }

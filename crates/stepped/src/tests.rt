@@ -22,7 +22,12 @@ const NODE: Event = Event::Node { worker: 1 };
 fn subject<R: Abort>(rt: &R, alloc: Global) -> Result<Arc<Subject>, Fail> {
     let plane = pnm::read(alloc, PIXEL)?;
     let source = Arc::new(alloc, Source::of(plane)).map_err(AllocError::from)?;
-    let script = Script::of(alloc, Settings::start(), History::start(alloc)?, Vec::new(alloc))?;
+    let script = Script::of(
+        alloc,
+        Settings::start(),
+        History::start(alloc)?,
+        Vec::new(alloc),
+    )?;
     assert!(rt; is_built(&script));
     Ok(Arc::new(alloc, Subject::of(source, script)).map_err(AllocError::from)?)
 }
