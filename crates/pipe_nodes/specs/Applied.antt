@@ -20,4 +20,5 @@ pub record CanApply (p : Params) (input : Cut) (region : Area) : Type 0 where
 pub record IsApplied (p : Params) (level : ℕ) (input : Cut) (region : Area) (made : Option Cut) : Type 0 where
   pub area : IfSome made (λ o. o.area ≡ region)
   pub cut : IfSome made (λ o. (q : Picture) → IsCutOf q input → IsCutOf (means p level q) o)
+  pub covers : IfNone made (Covers input.area region)
   pub same : IfNone made ((q : Picture) → IsCutOf q input → means p level q ≡ q)
