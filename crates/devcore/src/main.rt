@@ -10,7 +10,8 @@ use develop_session::{Status, run_words};
 use outside::{HostSaid, HostShelf, Said};
 use std::io::ErrorKind;
 use std::process::ExitCode;
-use std::rt::Env;
+use std::rt::{Env, Files};
+use std::thread::Threads;
 use std::{env, io};
 
 // The words after the program's name.
@@ -33,13 +34,15 @@ fn unread(error: io::Error) -> io::Result<Status>
     }
 }
 
-// Runs the command that the words are over real files and standard output.
-fn run(rt: &HostRuntime) -> io::Result<Status> {
-    let mut said = HostSaid::new(rt.stdout());
+// Runs the command that the words are over real files.
+fn run<R: Env + Files + AllocGlobal + Threads + Sync, O: Said>(
+    rt: &R,
+    said: &mut O,
+) -> io::Result<Status> {
     match words(rt) {
         Ok(words) => {
             let mut shelf = HostShelf::new(rt);
-            let status = run_words(rt, rt.alloc(), words.as_slice(), &mut shelf, &mut said);
+            let status = run_words(rt, rt.alloc(), words.as_slice(), &mut shelf, said);
             Ok(status)
         }
         Err(error) => {
@@ -58,6 +61,7 @@ fn exit_code(status: &Status) -> ExitCode
 }
 
 fn main(rt: HostRuntime) -> io::Result<ExitCode> {
-    let status = run(&rt)?;
+    let mut said = HostSaid::new(rt.stdout());
+    let status = run(&rt, &mut said)?;
     Ok(exit_code(&status))
 }
