@@ -2,6 +2,8 @@
 use Rattle.std.specs.Prelude.{◌≡◌, ◌⊎◌, ℕ, List, Option, IfSome}
 use Rattle.outside.specs.Shelf.{Files, PutsInPart}
 use Rattle.outside.specs.Said.{Says, SaysInPart}
+use Rattle.outside.specs.declared.failed.Failed.{Failed}
+use Rattle.outside.specs.declared.failed.Failed.TheVariants as failed
 use Rattle.edit_steps.specs.Script.{Recipe}
 use Rattle.dev_core.specs.Subject.{SubjectSeen}
 use Rattle.stepped.specs.declared.event.Event.{Event}
@@ -15,6 +17,11 @@ use Rattle.develop_session.specs.declared.status.Status.TheVariants as status
 use Rattle.develop_session.specs.Files.{HasBadScript, HasScriptThat, HasScriptBut, HasNoSource, HasNoEvents}
 use Rattle.develop_session.specs.Replay.{HasLargeSource, IsServed}
 use Rattle.develop_session.specs.Words.{Replay}
+
+-- the status of a failed call of the shelf at a name: a fault tells the name
+abbrev pub failed_status : List ℕ → Failed → Status
+failed_status name failed.Fault = status.ShelfFault name
+failed_status name failed.Memory = status.OutOfMemory
 
 -- a file failed: want of memory, or a fault of this name whose count rose
 abbrev pub FailsAt : List ℕ → Type 0 → Status → Type 0
