@@ -9,7 +9,7 @@ use Rattle.modules_raw.proofs.LevelLemmas.{level_of_cut}
 use Rattle.modules_raw.proofs.levelling.level.Goals as goal
 
 pub paint-requires-clause-asks : goal.paint-requires-clause-asks
-paint-requires-clause-asks g c _ x y inside =
+paint-requires-clause-asks g c _ _ x y inside =
     let plane = c.plane-plane.result.now in
     let size = c.block_size-size.ensures.size in
     let sides = c.sides-w.ensures.sides in

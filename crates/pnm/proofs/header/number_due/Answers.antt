@@ -1,4 +1,4 @@
-use Rattle.std.proofs.Common.{◌≡◌, ◌-◌, ◌<◌, ◌≤◌, min, Some, true, false, length, drop, length-drop, sym, ap, ◌∙◌, arith}
+use Rattle.std.proofs.Common.{◌≡◌, ◌-◌, min, Some, true, length, length-drop, sym, ap, ◌∙◌, arith}
 use Rattle.pnm.specs.declared.fault.PnmFault.{PnmFault}
 use Rattle.pnm.specs.declared.fault.PnmKind.TheVariants.{BadHeader}
 use Rattle.pnm.specs.Fault.{after_digits, begins, front_digits, number_of, number_text}

@@ -1,4 +1,4 @@
-use Rattle.std.proofs.Common.{◌≡◌, sym, ◌∙◌}
+use Rattle.std.proofs.Common.{sym, ◌∙◌}
 use Rattle.pnm.proofs.WordLemmas.{digits_step}
 use Rattle.pnm.proofs.words.front_number.Goals as goal
 
