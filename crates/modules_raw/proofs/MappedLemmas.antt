@@ -76,4 +76,4 @@ pub mapped_of_cut : (p : Cut) (q : Picture) (makes : ℕ → ℕ → ℕ) (x y :
 mapped_of_cut p q makes x y r part inside is =
     is.pixel ∙ (ap (λ k. pixel_by k (λ c. makes (channel_in k x y c) (value_at p x y c))) part.kind
     ∙ pixel_by_same q.kind (λ c. makes (channel_in q.kind x y c) (value_at p x y c)) (λ c. makes (channel_in q.kind x y c) (q.at x y c))
-      (λ c few. ap (makes (channel_in q.kind x y c)) (part.same x y c inside few)))
+    (λ c few. ap (makes (channel_in q.kind x y c)) (part.same x y c inside few)))

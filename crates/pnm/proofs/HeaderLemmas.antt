@@ -80,10 +80,10 @@ module _ (bytes : List ℕ) (cfa : Option Cfa) (q : Picture) (magic top white : 
       let b = number_none (length bytes) (width_gap bytes) 16384 BadHeader TooLarge width.opens width.starts (rw w w_some) (rw w wide) in
       let d = number_none (length bytes) (height_gap bytes) 16384 BadHeader TooLarge height.opens height.starts (rw h h_some) (rw h high) in
       let least : (nat_lt q.w (least_side q.kind) || nat_lt q.h (least_side q.kind)) ≡ false =
-          or_from (nat_lt q.w (least_side q.kind)) (nat_lt q.h (least_side q.kind)) (le-ltb q.w (least_side q.kind) wide_enough) (le-ltb q.h (least_side q.kind) high_enough) in
+      or_from (nat_lt q.w (least_side q.kind)) (nat_lt q.h (least_side q.kind)) (le-ltb q.w (least_side q.kind) wide_enough) (le-ltb q.h (least_side q.kind) high_enough) in
       let e : sides_fault (length bytes) (kind_of bytes cfa) (number_of (width_gap bytes)) (number_of (height_gap bytes)) (length (number_text (width_gap bytes))) (length (number_text (height_gap bytes))) ≡ None =
-          sides_none (length bytes) (kind_of bytes cfa) (number_of (width_gap bytes)) (number_of (height_gap bytes)) (length (number_text (width_gap bytes))) (length (number_text (height_gap bytes)))
-          (rw (w, h) pixels) (rw (kind_is, w, h) least) in
+      sides_none (length bytes) (kind_of bytes cfa) (number_of (width_gap bytes)) (number_of (height_gap bytes)) (length (number_text (width_gap bytes))) (length (number_text (height_gap bytes)))
+      (rw (w, h) pixels) (rw (kind_is, w, h) least) in
       let f = number_none (length bytes) (greatest_gap bytes) 65535 BadMaxval BadMaxval greatest.opens greatest.starts (rw t some) (rw t small) in
       let need : raster_len bytes ≡ length raster = rw (second, w, h, t) (sym len) in
       let tail : raster_text bytes ≡ raster ++ rest = ap (drop 1) last in

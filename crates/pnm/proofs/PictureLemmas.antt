@@ -43,7 +43,7 @@ picture_from_header bytes cfa kind w h samples top raster values header made =
     let second_digits = front_digits (number_text (height_gap bytes)) in
     let third_digits = front_digits (number_text (greatest_gap bytes)) in
     let tail : raster_text bytes ≡ raster ++ drop (raster_len bytes) (raster_text bytes) =
-        sym (take-append-drop (raster_len bytes) (raster_text bytes)) ∙ ap (λ t. t ++ drop (raster_len bytes) (raster_text bytes)) (sym header.raster_is) in
+    sym (take-append-drop (raster_len bytes) (raster_text bytes)) ∙ ap (λ t. t ++ drop (raster_len bytes) (raster_text bytes)) (sym header.raster_is) in
     record {
       magic = slice_index bytes 1;
       first_gap = one.gap;

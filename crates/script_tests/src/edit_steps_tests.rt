@@ -92,6 +92,7 @@ fn brighter() -> Step
         params: Params::Exposure(Exposure {
             black: 0,
             gain: 8192,
+            stops: 0,
         }),
         blend: None,
     }))

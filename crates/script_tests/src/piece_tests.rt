@@ -18,6 +18,7 @@ fn doubling() -> Active {
     let params = Params::Exposure(Exposure {
         black: 1000,
         gain: 8192,
+        stops: 0,
     });
     Active {
         instance: 0,

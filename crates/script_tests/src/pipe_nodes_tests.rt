@@ -10,7 +10,11 @@ fn exposure(instance: u8, black: i32, gain: u32) -> Item {
     Item {
         instance,
         enabled: true,
-        params: Params::Exposure(Exposure { black, gain }),
+        params: Params::Exposure(Exposure {
+            black,
+            gain,
+            stops: 0,
+        }),
         blend: None,
     }
 }

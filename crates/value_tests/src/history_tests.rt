@@ -17,7 +17,12 @@ fn item(instance: u8, params: Params) -> Item {
 }
 
 fn exposure(instance: u8, gain: u32) -> Item {
-    item(instance, Params::Exposure(Exposure { black: 0, gain }))
+    let exposure = Exposure {
+        black: 0,
+        gain,
+        stops: 0,
+    };
+    item(instance, Params::Exposure(exposure))
 }
 
 fn mixer() -> Item {
@@ -30,9 +35,14 @@ fn temperature() -> Item {
     item(0, Params::Temperature(Temperature { mul }))
 }
 
-fn curve(alloc: Global) -> Result<Item, AllocError> {
-    let nodes = Nodes20::of(vec![in alloc; (0, 0), (1_048_575, 1_048_575)]?);
-    Ok(item(0, Params::ToneCurve(ToneCurve { nodes })))
+fn curve() -> Result<Item, Fail> {
+    let line = Nodes20::of(&[(0, 0), (1_048_575, 1_048_575)]).ok_or("too many nodes")?;
+    let curve = ToneCurve {
+        red: line,
+        green: line,
+        blue: line,
+    };
+    Ok(item(0, Params::ToneCurve(curve)))
 }
 
 // Module, instance and, of an exposure, gain.
@@ -60,11 +70,11 @@ fn try_edit(
     Ok(Ok(history.apply(alloc, edit)?))
 }
 
-fn setting_edit(alloc: Global, step: usize) -> Result<Edit, AllocError> {
+fn setting_edit(step: usize) -> Result<Edit, Fail> {
     Ok(match step {
         0 => Edit::Set(exposure(0, 8192)),
         1 => Edit::Set(mixer()),
-        2 => Edit::Set(curve(alloc)?),
+        2 => Edit::Set(curve()?),
         3 => Edit::Select { end: 1 },
         4 => Edit::Set(exposure(0, 2048)),
         5 => Edit::Set(temperature()),
@@ -78,7 +88,7 @@ fn eight_edits_make_these_kinds_and_items(rt: HostRuntime) -> Result<(), Fail> {
     let alloc = rt.alloc();
     let mut history = History::start(alloc)?;
     for step in 0..8 {
-        let edit = setting_edit(alloc, step)?;
+        let edit = setting_edit(step)?;
         let kind = if step == 4 { Kind::Top } else { Kind::Synch };
         assert_eq!(rt; try_edit(alloc, &mut history, &edit)?, Ok(kind), "{step}");
         if step == 4 {
@@ -90,11 +100,11 @@ fn eight_edits_make_these_kinds_and_items(rt: HostRuntime) -> Result<(), Fail> {
     Ok(())
 }
 
-fn instance_edit(alloc: Global, step: usize) -> Result<Edit, AllocError> {
+fn instance_edit(step: usize) -> Result<Edit, Fail> {
     let module = Module::Exposure;
     Ok(match step {
         0 => Edit::Set(exposure(0, 8192)),
-        1 => Edit::Set(curve(alloc)?),
+        1 => Edit::Set(curve()?),
         2 => Edit::Add {
             module,
             instance: 1,
@@ -121,7 +131,7 @@ fn a_deleted_instance_takes_its_items_along(rt: HostRuntime) -> Result<(), Fail>
     let (synch, remove) = (Kind::Synch, Kind::Remove);
     let kinds = [synch, synch, remove, synch, synch, remove, remove];
     for (step, kind) in kinds.iter().enumerate() {
-        let edit = instance_edit(alloc, step)?;
+        let edit = instance_edit(step)?;
         assert_eq!(rt; try_edit(alloc, &mut history, &edit)?, Ok(*kind), "{step}");
     }
     let last = [(Module::ToneCurve, 0, 0), (Module::Exposure, 1, 256)];

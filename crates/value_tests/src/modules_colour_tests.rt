@@ -17,6 +17,7 @@ fn exposure_takes_black_away_and_clamps(rt: HostRuntime) -> Result<(), Fail> {
     let settings = Exposure {
         black: 1,
         gain: 4096,
+        stops: 0,
     };
     let output = exposure(&rt, rt.alloc(), &settings, &input, whole)?;
     assert_eq!(rt; output.values(), [0, 256, 513].as_slice());
