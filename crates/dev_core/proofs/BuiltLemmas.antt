@@ -11,7 +11,8 @@ use Rattle.history.specs.After.{after, live_items, with_item, overwrites}
 use Rattle.history.proofs.ItemLemmas.{All-last_items}
 use Rattle.edit_steps.specs.declared.step.Step.{Step}
 use Rattle.edit_steps.specs.declared.step.Step.TheVariants as steps
-use Rattle.edit_steps.specs.Changes.{is_change, changes_of, history_behind, history_after}
+use Rattle.undo_stack.specs.Undoing.{undone_to, redone_to}
+use Rattle.edit_steps.specs.Changes.{is_change, changes_of, Histories, first_histories, histories_behind, histories_after}
 use Rattle.edit_steps.specs.Script.{Recipe, history_at}
 use Rattle.pipe_nodes.specs.Active.{IsBuilt}
 use Rattle.pipe_nodes.specs.Actives.{IsBuiltItem, actives_of}
@@ -34,19 +35,47 @@ edit_built h (edits.Add m instance place) all one = all
 edit_built h (edits.Delete m instance) all one = All-filter _ IsBuiltItem h.items all
 edit_built h (edits.Move m instance place) all one = all
 
-step_built : (h : Stack) (s : Step) → All IsBuiltItem h.items → IsBuiltStep s → All IsBuiltItem (history_behind h s).items
-step_built h (steps.Edit edit) all one = edit_built h edit all one
-step_built h (steps.View view) all one = all
-step_built h (steps.Export size depth) all one = all
-step_built h (steps.Thumbnail size) all one = all
-step_built h steps.Settle all one = all
+abbrev HasBuilt : Stack → Type 0
+HasBuilt h = All IsBuiltItem h.items
 
-steps_built : (h : Stack) (ss : List Step) → All IsBuiltItem h.items → All IsBuiltStep ss → All IsBuiltItem (history_after h ss).items
-steps_built h [] all each = all
-steps_built h (s ∷ ss) all each =
-    steps_built (history_behind h s) ss (step_built h s all (All-head IsBuiltStep s ss each)) (All-tail IsBuiltStep s ss each)
+-- a run can make each of the histories
+record AreBuilt (hs : Histories) : Type 0 where
+  present : HasBuilt hs.present
+  past : All HasBuilt hs.past
+  future : All HasBuilt hs.future
+
+undone_built : (hs : Histories) (past : List Stack) → AreBuilt hs → All HasBuilt past → AreBuilt (undone_to hs past)
+undone_built hs [] all each = all
+undone_built hs (h ∷ rest) all each = record { present = All-head HasBuilt h rest each; past = All-tail HasBuilt h rest each; future = All-cons HasBuilt hs.present hs.future all.present all.future }
+
+redone_built : (hs : Histories) (future : List Stack) → AreBuilt hs → All HasBuilt future → AreBuilt (redone_to hs future)
+redone_built hs [] all each = all
+redone_built hs (h ∷ rest) all each = record { present = All-head HasBuilt h rest each; past = All-cons HasBuilt hs.present hs.past all.present all.past; future = All-tail HasBuilt h rest each }
+
+step_built : (hs : Histories) (s : Step) → AreBuilt hs → IsBuiltStep s → AreBuilt (histories_behind hs s)
+step_built hs (steps.Edit edit) all one = record {
+  present = edit_built hs.present edit all.present one;
+  past = All-take HasBuilt hs.depth (hs.present ∷ hs.past) (All-cons HasBuilt hs.present hs.past all.present all.past);
+  future = All-nil HasBuilt;
+}
+step_built hs steps.Undo all one = undone_built hs hs.past all all.past
+step_built hs steps.Redo all one = redone_built hs hs.future all all.future
+step_built hs (steps.View view) all one = all
+step_built hs (steps.Second view) all one = all
+step_built hs (steps.Export size depth) all one = all
+step_built hs (steps.Thumbnail size) all one = all
+step_built hs steps.Settle all one = all
+
+steps_built : (hs : Histories) (ss : List Step) → AreBuilt hs → All IsBuiltStep ss → AreBuilt (histories_after hs ss)
+steps_built hs [] all each = all
+steps_built hs (s ∷ ss) all each =
+    steps_built (histories_behind hs s) ss (step_built hs s all (All-head IsBuiltStep s ss each)) (All-tail IsBuiltStep s ss each)
+
+first_built : (r : Recipe) → IsBuiltScript r → AreBuilt (first_histories r.settings r.opening)
+first_built r built = record { present = built.opening; past = All-nil HasBuilt; future = All-nil HasBuilt }
 
 -- a run can make what is active at each moment
 pub built_at : (r : Recipe) (m : ℕ) → IsBuiltScript r → All IsBuilt (actives_of (history_at r m))
-built_at r m built = actives-built (history_at r m) (steps_built r.opening (take m (changes_of r.steps)) built.opening
-    (All-take IsBuiltStep m (changes_of r.steps) (All-filter is_change IsBuiltStep r.steps built.steps)))
+built_at r m built =
+    let each = All-take IsBuiltStep m (changes_of r.steps) (All-filter is_change IsBuiltStep r.steps built.steps) in
+    actives-built (history_at r m) (steps_built (first_histories r.settings r.opening) (take m (changes_of r.steps)) (first_built r built) each).present

@@ -18,7 +18,10 @@ IsBuiltEdit (edits.Move m instance place) = ⊤
 
 abbrev pub IsBuiltStep : Step → Type 0
 IsBuiltStep (steps.Edit edit) = IsBuiltEdit edit
+IsBuiltStep steps.Undo = ⊤
+IsBuiltStep steps.Redo = ⊤
 IsBuiltStep (steps.View view) = ⊤
+IsBuiltStep (steps.Second view) = ⊤
 IsBuiltStep (steps.Export size depth) = ⊤
 IsBuiltStep (steps.Thumbnail size) = ⊤
 IsBuiltStep steps.Settle = ⊤

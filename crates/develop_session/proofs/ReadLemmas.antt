@@ -1,12 +1,11 @@
 -- what the front of a file tells of the file
-use Rattle.std.proofs.Common.{◌≡◌, ℕ, List, take, Option, Some, None, Ok, Err, refl, sym, subst, ◌≤◌}
+use Rattle.std.proofs.Common.{◌≡◌, ℕ, List, take, Option, Some, None, Ok, Err, refl, sym, subst}
 use Rattle.std.specs.Prelude.{option_map}
 use Rattle.px.specs.Picture.{Picture}
 use Rattle.edit_steps.specs.declared.fault.ScriptFault.{ScriptFault}
 use Rattle.edit_steps.specs.Script.{Recipe}
 use Rattle.outside.specs.Shelf.{Files, held}
 use Rattle.pnm.specs.Pnm.{IsPicture}
-use Rattle.pnm.proofs.FrontLemmas.{picture_of_front, picture_in_front}
 use Rattle.edit_script.specs.Script.{script_of}
 use Rattle.stepped.specs.declared.event.Event.{Event}
 use Rattle.stepped.specs.Reads.{events_of}
@@ -45,22 +44,24 @@ pub has_no_events : (name : List ℕ) (fs : Files) (front : List ℕ) → ((text
 has_no_events name fs front tells e = let file = front_read name fs 4194305 front e in
     record { bytes = file.bytes; stands = file.stands; reads = tells file.bytes file.front_is }
 
-source_front : (name : List ℕ) (fs : Files) (n : ℕ) (front : List ℕ) (q : Picture) → IsPicture front q → HasFront name fs n front → HasSource name fs q
-source_front name fs n front q shows file = record {
+source_front : (name : List ℕ) (fs : Files) (front : List ℕ) (q : Picture) → IsPicture front None q → HasFront name fs 268435456 front → HasSource name fs q
+source_front name fs front q shows file = record {
   bytes = file.bytes;
   stands = file.stands;
-  shows = picture_of_front n file.bytes q (subst (λ t. IsPicture t q) (sym file.front_is) shows);
+  shows = subst (λ t. IsPicture t None q) (sym file.front_is) shows;
 }
 
-pub has_source : (name : List ℕ) (fs : Files) (n : ℕ) (front : List ℕ) (q : Picture) → IsPicture front q → option_map (take n) (held fs name) ≡ Some front → HasSource name fs q
-has_source name fs n front q shows e = source_front name fs n front q shows (front_read name fs n front e)
+pub has_source : (name : List ℕ) (fs : Files) (n : ℕ) (front : List ℕ) (q : Picture) → n ≡ 268435456 → IsPicture front None q → option_map (take n) (held fs name) ≡ Some front → HasSource name fs q
+has_source name fs n front q all shows e =
+    source_front name fs front q shows (front_read name fs 268435456 front (subst (λ m. option_map (take m) (held fs name) ≡ Some front) all e))
 
-no_source_front : (name : List ℕ) (fs : Files) (n : ℕ) (front : List ℕ) → 100000000 ≤ n → ((q : Picture) → IsPicture front q → ⊥) → HasFront name fs n front → HasNoSource name fs
-no_source_front name fs n front long none file = record {
+no_source_front : (name : List ℕ) (fs : Files) (front : List ℕ) → ((q : Picture) → IsPicture front None q → ⊥) → HasFront name fs 268435456 front → HasNoSource name fs
+no_source_front name fs front none file = record {
   bytes = file.bytes;
   stands = file.stands;
-  shows = λ q shows. none q (subst (λ t. IsPicture t q) file.front_is (picture_in_front n file.bytes q long shows));
+  shows = λ q shows. none q (subst (λ t. IsPicture t None q) file.front_is shows);
 }
 
-pub has_no_source : (name : List ℕ) (fs : Files) (n : ℕ) (front : List ℕ) → 100000000 ≤ n → ((q : Picture) → IsPicture front q → ⊥) → option_map (take n) (held fs name) ≡ Some front → HasNoSource name fs
-has_no_source name fs n front long none e = no_source_front name fs n front long none (front_read name fs n front e)
+pub has_no_source : (name : List ℕ) (fs : Files) (n : ℕ) (front : List ℕ) → n ≡ 268435456 → ((q : Picture) → IsPicture front None q → ⊥) → option_map (take n) (held fs name) ≡ Some front → HasNoSource name fs
+has_no_source name fs n front all none e =
+    no_source_front name fs front none (front_read name fs 268435456 front (subst (λ m. option_map (take m) (held fs name) ≡ Some front) all e))

@@ -51,7 +51,7 @@ SourceFails name old rose status.OutOfMemory = Unit {0}
 SourceFails name old rose (status.ShelfFault at) = (at ≡ name) × rose
 SourceFails name old rose _ = ⊥
 
--- the file is no picture of the first form, or one that isn't small
+-- the file is no picture, or one that isn't small
 abbrev pub HasNoSmallSource : List ℕ → Files → Type 0
 HasNoSmallSource name fs = HasNoSource name fs ⊎ HasLargeSource name fs
 

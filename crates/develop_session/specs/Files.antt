@@ -1,5 +1,5 @@
 -- what stands under the names of a command
-use Rattle.std.specs.Prelude.{◌≡◌, ℕ, List, Some, None, Ok, Err}
+use Rattle.std.specs.Prelude.{◌≡◌, ℕ, List, take, Some, None, Ok, Err}
 use Rattle.px.specs.Picture.{Picture}
 use Rattle.pnm.specs.Pnm.{IsPicture}
 use Rattle.outside.specs.Shelf.{Files, held}
@@ -29,17 +29,17 @@ HasScriptThat P name fs = (script : Recipe) × HasScript name fs script × P scr
 abbrev pub HasScriptBut : (Recipe → Type 0) → List ℕ → Files → Type 0
 HasScriptBut P name fs = (script : Recipe) × HasScript name fs script × (P script → ⊥)
 
--- the file under the name is this picture
+-- The file under the name is this picture, read without a colour filter array. Its first 268,435,456 bytes are looked at.
 pub record HasSource (name : List ℕ) (fs : Files) (q : Picture) : Type 0 where
   pub bytes : List ℕ
   pub stands : held fs name ≡ Some bytes
-  pub shows : IsPicture bytes q
+  pub shows : IsPicture (take 268435456 bytes) None q
 
--- the file under the name hasn't the first form of a picture
+-- the file under the name is no picture
 pub record HasNoSource (name : List ℕ) (fs : Files) : Type 0 where
   pub bytes : List ℕ
   pub stands : held fs name ≡ Some bytes
-  pub shows : (q : Picture) → IsPicture bytes q → ⊥
+  pub shows : (q : Picture) → IsPicture (take 268435456 bytes) None q → ⊥
 
 -- the file under the name is this list of events
 pub record HasEvents (name : List ℕ) (fs : Files) (events : List Event) : Type 0 where

@@ -1,5 +1,5 @@
 -- what `stepped` makes of its files
-use Rattle.std.specs.Prelude.{◌≡◌, ◌↔◌, ℕ, ◌≤◌, ⊤, List, length, IsTrue, Option, IfSome}
+use Rattle.std.specs.Prelude.{◌≡◌, ◌↔◌, ℕ, ◌≤◌, ⊤, List, length, IsTrue, Option, None, IfSome}
 use Rattle.std.specs.List.{All}
 use Rattle.px.specs.Picture.{Picture}
 use Rattle.px.specs.Cut.{picture_of}
@@ -7,7 +7,7 @@ use Rattle.outside.specs.Shelf.{Files}
 use Rattle.edit_steps.specs.declared.step.Step.{Step}
 use Rattle.edit_steps.specs.declared.step.Step.TheVariants as steps
 use Rattle.edit_steps.specs.Script.{Recipe}
-use Rattle.edit_script.specs.Settings.{start_view}
+use Rattle.edit_steps.specs.Settings.{start_view}
 use Rattle.dev_core.specs.Built.{IsBuiltScript}
 use Rattle.dev_core.specs.Desk.{IsComplete}
 use Rattle.dev_core.specs.Lines.{Line, lines}
@@ -26,15 +26,24 @@ pub record IsSmall (q : Picture) : Type 0 where
   pub wide : q.w ≤ 720
   pub high : q.h ≤ 480
 
-abbrev pub IsEdit : Step → Type 0
-IsEdit (steps.Edit edit) = ⊤
-IsEdit _ = ⊥
+-- the desk serves the step so far
+abbrev pub IsServedStep : Step → Type 0
+IsServedStep (steps.Edit edit) = ⊤
+IsServedStep steps.Undo = ⊤
+IsServedStep steps.Redo = ⊤
+IsServedStep (steps.View view) = ⊥
+IsServedStep (steps.Second view) = ⊥
+IsServedStep (steps.Export size depth) = ⊥
+IsServedStep (steps.Thumbnail size) = ⊥
+IsServedStep steps.Settle = ⊥
 
--- a replay serves the script so far: a run can make each picture of it, each step is an edit, and the view is the default
+-- a replay serves the script so far: a run can make each picture of it, the desk serves each step, the view is the default, and there
+-- is no second window
 pub record IsServed (script : Recipe) : Type 0 where
   pub built : IsBuiltScript script
-  pub edits : All IsEdit script.steps
+  pub steps : All IsServedStep script.steps
   pub view : script.settings.view ≡ start_view
+  pub second : script.settings.second ≡ None
 
 -- script and source stand there, and this is their subject
 pub record HasSubject (c : Replay) (fs : Files) (s : SubjectSeen) : Type 0 where

@@ -13,14 +13,15 @@ use crate::served::is_served;
 use crate::status::{Input, Status};
 use dev_core::is_built;
 use edit_steps::{Script, ScriptEnd};
+use json_form::LONGEST;
 use outside::Shelf;
 use pnm::PnmEnd;
 use px::Plane;
 use std::alloc::Global;
 use stepped::{Event, EventsEnd};
 
-/// How many bytes of a script are read: one more than a script has at most.
-const SCRIPT_FRONT: usize = 4_194_305;
+/// How many bytes of a script or a list of events are read: one more than its text has at most.
+const TEXT_FRONT: usize = LONGEST + 1;
 
 /// How many bytes of a source are looked at.
 pub(crate) const SOURCE_FRONT: usize = 268_435_456;
@@ -33,7 +34,7 @@ fn read_script<S: Shelf>(alloc: Global, shelf: &mut S, name: &str) -> Result<Scr
     ensures reads { NoneFalls (S.read_faults shelf.old) (S.read_faults shelf.new) }
     ensures puts { NoneFalls (S.put_faults shelf.old) (S.put_faults shelf.new) }
 {
-    let bytes = read_file(alloc, shelf, name, SCRIPT_FRONT)?;
+    let bytes = read_file(alloc, shelf, name, TEXT_FRONT)?;
     match edit_script::read(alloc, bytes.as_slice()) {
         Ok(script) => Ok(script),
         Err(ScriptEnd::Fault(fault)) => Err(Status::ScriptRefused {
@@ -95,7 +96,7 @@ pub(crate) fn read_source<S: Shelf>(
     name: &str,
     front: usize,
 ) -> Result<Plane, Status>
-    requires long { 100000000 ≤ front }
+    requires front { front ≡ 268435456 }
     ensures source { IfOk result (λ p. IfSome (S.files shelf.old) (λ fs. HasSource name.now fs (picture_of p))) }
     ensures whole { IfOk result (λ p. IsWhole p) }
     ensures rgb { IfOk result (λ p. p.kind ≡ Rgb) }
@@ -105,7 +106,7 @@ pub(crate) fn read_source<S: Shelf>(
     ensures puts { NoneFalls (S.put_faults shelf.old) (S.put_faults shelf.new) }
 {
     let bytes = read_file(alloc, shelf, name, front)?;
-    match pnm::read(alloc, bytes.as_slice()) {
+    match pnm::read(alloc, bytes.as_slice(), None) {
         Ok(plane) => Ok(plane),
         Err(PnmEnd::Fault(_)) => Err(Status::NotYet {
             what: Input::Source,
@@ -119,9 +120,6 @@ const WIDEST: u32 = 720;
 
 const HIGHEST: u32 = 480;
 
-/// How many bytes of a list of events are read: one more than a list has at most.
-const EVENTS_FRONT: usize = 4_194_305;
-
 /// The picture under a name, which is at most 720 pixels wide and 480 high.
 pub(crate) fn read_small_source<S: Shelf>(
     alloc: Global,
@@ -129,7 +127,7 @@ pub(crate) fn read_small_source<S: Shelf>(
     name: &str,
     front: usize,
 ) -> Result<Plane, Status>
-    requires long { 100000000 ≤ front }
+    requires front { front ≡ 268435456 }
     ensures source { IfOk result (λ p. IfSome (S.files shelf.old) (λ fs. HasSource name.now fs (picture_of p))) }
     ensures whole { IfOk result (λ p. IsWhole p) }
     ensures rgb { IfOk result (λ p. p.kind ≡ Rgb) }
@@ -162,7 +160,7 @@ pub(crate) fn read_events<S: Shelf>(
     ensures reads { NoneFalls (S.read_faults shelf.old) (S.read_faults shelf.new) }
     ensures puts { NoneFalls (S.put_faults shelf.old) (S.put_faults shelf.new) }
 {
-    let bytes = read_file(alloc, shelf, name, EVENTS_FRONT)?;
+    let bytes = read_file(alloc, shelf, name, TEXT_FRONT)?;
     match stepped::read_events(alloc, bytes.as_slice()) {
         Ok(events) => Ok(events),
         Err(EventsEnd::Fault(_)) => Err(Status::NotYet {

@@ -4,8 +4,16 @@
 //! that cut of the whole output, whatever else the plane holds.
 #![tactic(auto)]
 
+mod channel_table;
+mod curve_table;
+mod curving;
 mod exposing;
-#[cfg(test)]
-mod tests;
+mod migrating;
+mod mixing;
+mod steps;
 
+pub use curve_table::CurveTable;
+pub use curving::{curve, curve_in_turn};
 pub use exposing::exposure;
+pub use migrating::migrate_same;
+pub use mixing::{mixer, mixer_in_turn};

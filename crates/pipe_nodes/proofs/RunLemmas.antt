@@ -6,8 +6,8 @@ use Rattle.std.proofs.lemmas.List.{append_assoc, append-nil, take_more}
 use Rattle.params.specs.declared.settings.Exposure.{Exposure}
 use Rattle.params.specs.declared.settings.Params.{Params}
 use Rattle.params.specs.declared.settings.Params.TheVariants as params
-use Rattle.params.specs.Ranges.{IsExposureWithin, exposure_entries, stated_exposure, check_of}
-use Rattle.params.proofs.Faults.{all_kept}
+use Rattle.params.specs.Ranges.{IsWithin, check_of}
+use Rattle.params.proofs.WithinLemmas.{fault_free}
 use Rattle.px.specs.Area.{Area, whole_of}
 use Rattle.px.specs.Picture.{Picture}
 use Rattle.px.specs.Cut.{Cut, IsCutOf, picture_of}
@@ -47,8 +47,8 @@ standing-more None made source = refl
 standing-more (Some p) made source = refl
 
 -- the settings of an exposure within its ranges
-pub exposure-within : (a : Active) (e : Exposure) → a.params ≡ params.Exposure e → IsFit a → IsExposureWithin e
-exposure-within a e is fit = all_kept (exposure_entries (stated_exposure e)) (subst (λ p. check_of p ≡ Ok tt) is fit.params)
+pub exposure-within : (a : Active) (e : Exposure) → a.params ≡ params.Exposure e → IsFit a → IsWithin (params.Exposure e)
+exposure-within a e is fit = fault_free (params.Exposure e) tt (subst (λ p. check_of p ≡ Ok tt) is fit.params)
 
 itself : (p : Cut) → IsCutOf (picture_of p) p
 itself p = record { kind = refl; wide = refl; high = refl; same = λ x y c inside channel. refl }

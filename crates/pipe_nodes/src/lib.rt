@@ -12,12 +12,8 @@ mod render;
 mod run;
 mod show;
 mod source;
-#[cfg(test)]
-mod stage_tests;
 mod staged;
 mod steps;
-#[cfg(test)]
-mod tests;
 
 pub use active::{Active, are_built};
 pub use counting::active_count;

@@ -1,4 +1,8 @@
-pub mod NumberLemmas
+pub mod FaultLemmas
+pub mod GapLemmas
 pub mod HeaderLemmas
+pub mod PictureLemmas
 pub mod SampleLemmas
-pub mod FrontLemmas
+pub mod ValueLemmas
+pub mod WordLemmas
+pub mod WrittenLemmas

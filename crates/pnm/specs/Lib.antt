@@ -1,1 +1,5 @@
+pub mod Fault
+pub mod Grammar
+pub mod Header
 pub mod Pnm
+pub mod Samples

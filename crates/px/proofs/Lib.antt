@@ -1,8 +1,11 @@
 pub mod RowLemmas
+pub mod BandLemmas
 pub mod ChunkLemmas
 pub mod PaintedLemmas
 pub mod SampleLemmas
 pub mod EditLemmas
+pub mod NumberLemmas
+pub mod MadeLemmas
 pub mod SumLemmas
 pub mod PixelLemmas
 pub mod MeanLemmas

@@ -19,8 +19,8 @@ row_of_rgb p c x y n row rgb own left few =
     let size : channels p.kind ≡ 3 = ap channels rgb in
     subst (λ k. total (λ k. slice_index row (c + k * 3)) 0 n ≡ total (λ u. part k (value_at p) c u y) x n) (sym rgb)
     (total_same (λ k. slice_index row (c + k * 3)) (λ k. value_at p (x + k) y c) 0 n
-      (λ k low high. let e : c + k * 3 ≡ k * channels p.kind + c = omega (arith, ap (λ s. k * s) size) in
-      ap (slice_index row) e ∙ own_value p x y n k c row own left (omega arith) (omega arith))
+    (λ k low high. let e : c + k * 3 ≡ k * channels p.kind + c = omega (arith, ap (λ s. k * s) size) in
+    ap (slice_index row) e ∙ own_value p x y n k c row own left (omega arith) (omega arith))
     ∙ total_shift (λ u. value_at p u y c) x n)
 
 pub count_of_rgb : (kind : PlaneKind) (c x y n : ℕ) → kind ≡ Rgb → n ≡ total (λ u. part kind (λ x y c. 1) c u y) x n

@@ -86,7 +86,7 @@ picked : (cfa : Cfa) (c : ℕ) (f : ℕ → ℕ → ℕ) (x y n : ℕ) (wanted :
     → total (λ k. only cfa c f (x + k * 2) y) 0 n ≡ (if wanted then total (λ k. f (x + k * 2) y) 0 n else 0)
 picked cfa c f x y n wanted is =
     total_same (λ k. only cfa c f (x + k * 2) y) (λ k. if wanted then f (x + k * 2) y else 0) 0 n
-      (λ k low high. ap (λ t. if t then f (x + k * 2) y else 0) (ap (λ h. h == c) (alternate_even cfa x y (k * 2) (omega arith)) ∙ sym is))
+    (λ k low high. ap (λ t. if t then f (x + k * 2) y else 0) (ap (λ h. h == c) (alternate_even cfa x y (k * 2) (omega arith)) ∙ sym is))
     ∙ total_pick wanted (λ k. f (x + k * 2) y) 0 n
 
 if_same : (t : Bool) (a b : ℕ) → a ≡ b → (if t then a else 0) ≡ (if t then b else 0)
@@ -97,12 +97,12 @@ pub row_of_mosaic : (cfa : Cfa) (c : ℕ) (f : ℕ → ℕ → ℕ) (x y n k m :
     → first ≡ (channel_at cfa x y == c) → second ≡ (channel_at cfa (x + 1) y == c)
     → ((i : ℕ) → i < n → slice_index row i ≡ f (x + i) y) → n ≡ k + m → (k ≡ m) ⊎ (k ≡ suc m)
     → (if first then total (λ k. slice_index row (0 + k * 2)) 0 k else 0) + (if second then total (λ k. slice_index row (1 + k * 2)) 0 m else 0)
-      ≡ total (λ u. only cfa c f u y) x n
+    ≡ total (λ u. only cfa c f u y) x n
 row_of_mosaic cfa c f x y n k m first second row one two same whole which =
     let even = total_same (λ j. slice_index row (0 + j * 2)) (λ j. f (x + j * 2) y) 0 k
-        (λ j low high. let e : 0 + j * 2 ≡ j * 2 = omega arith in rw e (same (j * 2) (omega arith))) in
+    (λ j low high. let e : 0 + j * 2 ≡ j * 2 = omega arith in rw e (same (j * 2) (omega arith))) in
     let odd = total_same (λ j. slice_index row (1 + j * 2)) (λ j. f (x + 1 + j * 2) y) 0 m
-        (λ j low high. let e : x + (1 + j * 2) ≡ x + 1 + j * 2 = omega arith in same (1 + j * 2) (omega arith) ∙ ap (λ u. f u y) e) in
+    (λ j low high. let e : x + (1 + j * 2) ≡ x + 1 + j * 2 = omega arith in same (1 + j * 2) (omega arith) ∙ ap (λ u. f u y) e) in
     let a = if_same first _ _ even ∙ sym (picked cfa c f x y k first one) in
     let b = if_same second _ _ odd ∙ sym (picked cfa c f (x + 1) y m second two) in
     let all = total_halves (λ u. only cfa c f u y) x n k m whole which in

@@ -1,4 +1,5 @@
 pub mod Area
+pub mod Bands
 pub mod Copied
 pub mod Cut
 pub mod Kind
@@ -7,6 +8,7 @@ pub mod Mosaic
 pub mod Number
 pub mod Painted
 pub mod Picture
+pub mod Pixelwise
 pub mod PlaneFields
 pub mod Repainted
 pub mod Rows

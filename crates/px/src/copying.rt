@@ -41,6 +41,13 @@ impl Plane {
         ensures cut { IfOk result (λ p. (q : Picture) → IsCutOf q self.now → IsCutOf q p) }
     {
         let (w, h) = self.sides();
-        paint_in_turn(alloc, self.kind(), w, h, region, &CopiedRows { plane: self })
+        paint_in_turn(
+            alloc,
+            self.kind(),
+            w,
+            h,
+            region,
+            &CopiedRows { plane: self },
+        )
     }
 }

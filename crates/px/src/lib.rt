@@ -5,6 +5,7 @@
 //! is made by one of the few builders here, so that loops, places and threads stand in one crate.
 #![tactic(auto)]
 
+mod banding;
 mod copying;
 mod depth;
 mod editing;
@@ -15,16 +16,15 @@ mod painting;
 mod plane;
 mod region;
 mod row_painter;
-#[cfg(test)]
-mod tests;
 mod trace;
 mod view;
 
+pub use banding::{BandFiller, fill_bands, paint_bands};
 pub use depth::Depth;
 pub use editing::repaint;
 pub use kind::{Cfa, Colour, PlaneKind};
 pub use means::box_mean;
-pub use number::{clamp_top, mul_floor};
+pub use number::{clamp_small, clamp_top, join_floor, mul_floor, scale_floor};
 pub use painting::{paint, paint_in_turn};
 pub use plane::Plane;
 pub use region::Region;

@@ -111,7 +111,7 @@ pub(crate) fn rows_of(region: Region, size: usize) -> Rows
 }
 
 // Values for so many rows, not painted yet.
-fn blank(alloc: Global, rows: Rows) -> Result<Vec<u32>, AllocError>
+pub(crate) fn blank(alloc: Global, rows: Rows) -> Result<Vec<u32>, AllocError>
     requires small { rows.size ≤ 3 }
     requires right { rows.x + rows.w ≤ 16384 }
     requires bottom { rows.y + rows.h ≤ 16384 }

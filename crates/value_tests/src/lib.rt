@@ -3,4 +3,26 @@
 #![tactic(auto)]
 
 #[cfg(test)]
+mod curve_tests;
+#[cfg(test)]
 mod geometry_tests;
+#[cfg(test)]
+mod history_tests;
+#[cfg(test)]
+mod local_modules_tests;
+#[cfg(test)]
+mod mixer_tests;
+#[cfg(test)]
+mod module_order_tests;
+#[cfg(test)]
+mod modules_colour_tests;
+#[cfg(test)]
+mod modules_raw_tests;
+#[cfg(test)]
+mod pnm_tests;
+#[cfg(test)]
+mod px_tests;
+#[cfg(test)]
+mod turn_lock_tests;
+#[cfg(test)]
+mod undo_stack_tests;

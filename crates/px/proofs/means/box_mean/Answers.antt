@@ -26,8 +26,8 @@ nonzero_div-result c =
     let rows = c.rows_of-rows.ensures.rows in
     let all : c.loop-j.j ≡ c.rows_of-rows.result.h = omega arith in
     let count : c.loop-j.count ≡ count_in p.kind (channel c.args.c) c.args.block =
-        sum_by_rows p.kind (λ x y c. 1) c.channel-channel.result c.args.block _ _ _ _ c.loop-j.count (ap (λ r. r.x) rows) (ap (λ r. r.y) rows) (ap (λ r. r.w) rows) (all ∙ ap (λ r. r.h) rows) c.loop-j.invariant.count_is
-        ∙ ap (λ k. count_in p.kind k c.args.block) c.channel-channel.ensures.channel in
+    sum_by_rows p.kind (λ x y c. 1) c.channel-channel.result c.args.block _ _ _ _ c.loop-j.count (ap (λ r. r.x) rows) (ap (λ r. r.y) rows) (ap (λ r. r.w) rows) (all ∙ ap (λ r. r.h) rows) c.loop-j.invariant.count_is
+    ∙ ap (λ k. count_in p.kind k c.args.block) c.channel-channel.ensures.channel in
     omega (arith, count, c.from.ensures, c.requires.some)
 
 pub returns-clause-mean : goal.returns-clause-mean
@@ -36,9 +36,9 @@ returns-clause-mean c =
     let rows = c.rows_of-rows.ensures.rows in
     let all : c.loop-j.j ≡ c.rows_of-rows.result.h = omega arith in
     let count : c.loop-j.count ≡ count_in p.kind (channel c.args.c) c.args.block =
-        sum_by_rows p.kind (λ x y c. 1) c.channel-channel.result c.args.block _ _ _ _ c.loop-j.count (ap (λ r. r.x) rows) (ap (λ r. r.y) rows) (ap (λ r. r.w) rows) (all ∙ ap (λ r. r.h) rows) c.loop-j.invariant.count_is
-        ∙ ap (λ k. count_in p.kind k c.args.block) c.channel-channel.ensures.channel in
+    sum_by_rows p.kind (λ x y c. 1) c.channel-channel.result c.args.block _ _ _ _ c.loop-j.count (ap (λ r. r.x) rows) (ap (λ r. r.y) rows) (ap (λ r. r.w) rows) (all ∙ ap (λ r. r.h) rows) c.loop-j.invariant.count_is
+    ∙ ap (λ k. count_in p.kind k c.args.block) c.channel-channel.ensures.channel in
     let sum : c.loop-j.sum ≡ sum_in p.kind (value_at p) (channel c.args.c) c.args.block =
-        sum_by_rows p.kind (value_at p) c.channel-channel.result c.args.block _ _ _ _ c.loop-j.sum (ap (λ r. r.x) rows) (ap (λ r. r.y) rows) (ap (λ r. r.w) rows) (all ∙ ap (λ r. r.h) rows) c.loop-j.invariant.sum_is
-        ∙ ap (λ k. sum_in p.kind (value_at p) k c.args.block) c.channel-channel.ensures.channel in
+    sum_by_rows p.kind (value_at p) c.channel-channel.result c.args.block _ _ _ _ c.loop-j.sum (ap (λ r. r.x) rows) (ap (λ r. r.y) rows) (ap (λ r. r.w) rows) (all ∙ ap (λ r. r.h) rows) c.loop-j.invariant.sum_is
+    ∙ ap (λ k. sum_in p.kind (value_at p) k c.args.block) c.channel-channel.ensures.channel in
     ap (λ n. n / c.from.result) sum ∙ ap (λ n. sum_in p.kind (value_at p) (channel c.args.c) c.args.block / n) (c.from.ensures ∙ count)

@@ -1,0 +1,4 @@
+pub mod RunningLemmas
+pub mod BoxLemmas
+pub mod SharpLemmas
+pub mod RadiusLemmas

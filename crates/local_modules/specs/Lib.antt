@@ -1,0 +1,4 @@
+pub mod Blurring
+pub mod Radius
+pub mod Running
+pub mod Sharpening

@@ -1,0 +1,15 @@
+//! The modules that look at a pixel's neighbourhood: box blur and sharpen.
+//!
+//! Each kernel makes a region of its module's output from a plane that covers that region, grown by the
+//! radius within the picture, and gives that cut of the whole output, whatever else the plane holds. A
+//! mean is kept by running sums, so the time doesn't grow with the radius.
+#![tactic(auto)]
+
+mod blurring;
+mod columns;
+mod filling;
+mod lines;
+mod radius;
+mod sharpening;
+
+pub use radius::radius_at;

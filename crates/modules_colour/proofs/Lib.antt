@@ -1,0 +1,5 @@
+pub mod CurveLemmas
+pub mod LineLemmas
+pub mod MixLemmas
+pub mod NodeLemmas
+pub mod OldLemmas
