@@ -6,7 +6,8 @@ use Rattle.std.proofs.lemmas.Int.{ints}
 use Rattle.params.specs.declared.settings.Crop.{Crop}
 use Rattle.params.specs.declared.settings.Params.{Params}
 use Rattle.params.specs.declared.settings.Params.TheVariants as params
-use Rattle.params.specs.Ranges.{IsWithin, IsCropWithin}
+use Rattle.params.specs.Each.{IsCropWithin}
+use Rattle.params.specs.Ranges.{IsWithin}
 use Rattle.px.specs.Area.{Area, Fits}
 use Rattle.geometry.specs.Sides.{IsPixelOf, kept_from, kept_to, kept_area, sides_after, mirrored, pixel_before, sides_behind, place_behind}
 

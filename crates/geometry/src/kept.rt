@@ -1,5 +1,5 @@
 ghost use Rattle.std.specs.Prelude.{◌≡◌, ◌+◌, ◌-◌, ◌<◌, ◌≤◌};
-ghost use Rattle.params.specs.Ranges.{IsCropWithin};
+ghost use Rattle.params.specs.Each.{IsCropWithin};
 ghost use Rattle.px.specs.Area.{Fits, IsIn};
 ghost use Rattle.geometry.specs.Sides.{kept_from, kept_to, kept_area};
 

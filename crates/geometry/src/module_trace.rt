@@ -1,7 +1,8 @@
 //! Where one module's pixels come from, as a trace.
 ghost use Rattle.std.specs.Prelude.{◌≡◌, ℕ, ◌<◌, ◌≤◌, if◌then◌else◌};
 ghost use Rattle.params.specs.declared.settings.Params.TheVariants.{Orientation as orientation_params};
-ghost use Rattle.params.specs.Ranges.{IsCropWithin, IsWithin};
+ghost use Rattle.params.specs.Each.{IsCropWithin};
+ghost use Rattle.params.specs.Ranges.{IsWithin};
 ghost use Rattle.px.specs.Area.{Fits};
 ghost use Rattle.px.specs.Trace.{Traces, TracesWithin};
 ghost use Rattle.geometry.specs.Sides.{kept_area};
