@@ -1,8 +1,7 @@
 -- pixels of levels
-use Rattle.std.proofs.Common.{◌≡◌, ℕ, ◌+◌, ◌-◌, ◌*◌, ◌<◌, ◌≤◌, ◌^◌, min, List, [], ◌∷◌, refl, sym, ap, ◌∙◌, arith}
-use Rattle.px.specs.Area.{Area, HasPixel}
+use Rattle.std.proofs.Common.{◌≡◌, ℕ, ◌<◌, ◌^◌, List, [], ◌∷◌, refl, ap, ◌∙◌, arith}
+use Rattle.px.specs.Area.{HasPixel}
 use Rattle.px.specs.Cut.{Cut, IsCutOf, IsWhole, value_at}
-use Rattle.px.specs.Kind.{channels}
 use Rattle.px.specs.Means.{mean_in}
 use Rattle.px.specs.Picture.{Picture, rgb_of}
 use Rattle.px.proofs.SumLemmas.{mean_same}

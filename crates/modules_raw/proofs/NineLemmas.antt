@@ -1,10 +1,9 @@
 -- the nine pixels of a window
-use Rattle.std.proofs.Common.{◌≡◌, ℕ, zero, suc, ◌+◌, ◌-◌, ◌*◌, ◌/◌, ◌%◌, ◌<◌, ◌≤◌, ◌==◌, min, Bool, true, false, List, [], ◌∷◌, if◌then◌else◌, refl, sym, ap, ◌∙◌, subst, ⊎_elim, arith}
-use Rattle.std.proofs.lemmas.Bool.{cases_lt, ne_eqb}
+use Rattle.std.proofs.Common.{◌≡◌, ℕ, zero, suc, ◌+◌, ◌-◌, ◌/◌, ◌%◌, ◌<◌, ◌==◌, min, Bool, true, false, [], ◌∷◌, if◌then◌else◌, refl, sym, ap, ◌∙◌, arith}
+use Rattle.std.proofs.lemmas.Bool.{ne_eqb}
 use Rattle.px.specs.declared.kind.Cfa.{Cfa}
 use Rattle.px.specs.declared.kind.Cfa.TheVariants.{Rggb, Bggr, Grbg, Gbrg}
-use Rattle.px.specs.Area.{Area}
-use Rattle.px.specs.Sums.{total, area_total}
+use Rattle.px.specs.Sums.{area_total}
 use Rattle.px.specs.declared.kind.PlaneKind.TheVariants.{Mosaic}
 use Rattle.px.specs.Means.{only, sum_in, count_in}
 use Rattle.px.specs.Mosaic.{channel_by, channel_at}

@@ -1,7 +1,7 @@
-use Rattle.std.proofs.Common.{◌≡◌, ◌<◌, sym, ap, ◌∙◌, arith, refl}
+use Rattle.std.proofs.Common.{sym, ap, ◌∙◌, arith, refl}
 use Rattle.std.proofs.lemmas.Result.{IfOk-weaker}
 use Rattle.px.specs.declared.kind.PlaneKind.TheVariants.{Mosaic}
-use Rattle.px.specs.Area.{HasPixel, Covers}
+use Rattle.px.specs.Area.{Covers}
 use Rattle.px.proofs.PaintedLemmas.{cut_of_rgb}
 use Rattle.modules_raw.specs.Demosaic.{demosaiced_by, window}
 use Rattle.modules_raw.proofs.WindowLemmas.{window_covered, pixel_of_whole}

@@ -1,4 +1,4 @@
-use Rattle.std.proofs.Common.{◌≡◌, ℕ, ◌+◌, ◌-◌, ◌≤◌, min, sym, ap, ◌∙◌, arith}
+use Rattle.std.proofs.Common.{◌≡◌, ◌+◌, ◌-◌, min, sym, ap, ◌∙◌, arith}
 use Rattle.px.specs.declared.kind.PlaneKind.TheVariants.{Mosaic}
 use Rattle.px.specs.Area.{Area}
 use Rattle.px.specs.Cut.{value_at}
