@@ -8,7 +8,7 @@ use Rattle.std.proofs.lemmas.List.Elements.{filter-append}
 use Rattle.outside.specs.declared.job_name.JobName.{JobName}
 use Rattle.outside.specs.declared.job_name.JobName.TheVariants as job
 use Rattle.outside.specs.declared.job_name.Pipe.{Pipe}
-use Rattle.outside.specs.declared.job_name.Pipe.TheVariants.{Full, Preview}
+use Rattle.outside.specs.declared.job_name.Pipe.TheVariants.{Full, Preview, Second}
 use Rattle.edit_steps.specs.declared.step.Step.{Step}
 use Rattle.edit_steps.specs.Changes.{is_change, changes_of}
 use Rattle.edit_steps.specs.Script.{Recipe, changes}
@@ -98,35 +98,18 @@ keeps_push s count j j' f f' d e k may items shows room frame_room =
       frame_room = frame_room;
     }
 
--- more room leaves all as it is
-pub keeps_roomy : (s : SubjectSeen) (count : ℕ) (j j' : Roomed Entry) (f f' : Roomed FrameSeen) (d : Desk)
-    → Keeps s count j f d → j'.items ≡ j.items → f'.items ≡ f.items → j.room ≤ j'.room → f.room ≤ f'.room → Keeps s count j' f' d
-keeps_roomy s count j j' f f' d k items shows room frame_room = record {
-  legal = subst (LegalFrom s.script start) (sym items) k.legal;
-  desk = k.desk ∙ ap (desk_of start) (sym items);
-  all = k.all;
-  few = k.few;
-  steps = k.steps;
-  moment = k.moment;
-  within = k.within;
-  low = k.low;
-  shows = shows ∙ k.shows ∙ ap (frames_of s) (sym items);
-  room = omega (arith, k.room, room);
-  frame_room = omega (arith, k.frame_room, frame_room);
-}
-
 one_small : (h : Option Hold) → one_out h ≤ 1
 one_small None = omega arith
 one_small (Some h) = omega arith
 
-pub jobs_small : (s : Slots) → jobs_out s ≤ 2
-jobs_small s = omega (arith, one_small s.full.hold, one_small s.preview.hold)
+pub jobs_small : (s : Slots) → jobs_out s ≤ 3
+jobs_small s = omega (arith, one_small s.full.hold, one_small s.preview.hold, one_small s.second.hold)
 
 close_small : (b : Bool) → cond b 0 1 ≤ 1
 close_small true = omega arith
 close_small false = omega arith
 
-pub owed_small : (d : Desk) → owed d ≤ 3
+pub owed_small : (d : Desk) → owed d ≤ 4
 owed_small d = omega (arith, jobs_small d.slots, close_small d.closed)
 
 held_is_one : (h : Option Hold) (w m : ℕ) → h ≡ held_by w m → one_out h ≡ 1
@@ -137,12 +120,14 @@ pub out_freed : (s : Slots) (p : Pipe) (w m : ℕ) (x : Option ℕ) → (at s p)
     → jobs_out (put s p (record { hold = None; published = x })) + 1 ≡ jobs_out s
 out_freed s Full w m x held = omega (arith, held_is_one s.full.hold w m held)
 out_freed s Preview w m x held = omega (arith, held_is_one s.preview.hold w m held)
+out_freed s Second w m x held = omega (arith, held_is_one s.second.hold w m held)
 
 -- a job that is out stays out
 pub out_held : (s : Slots) (p : Pipe) (w m v n : ℕ) (x : Option ℕ) → (at s p).hold ≡ held_by w m
     → jobs_out (put s p (record { hold = held_by v n; published = x })) ≡ jobs_out s
 out_held s Full w m v n x held = omega (arith, held_is_one s.full.hold w m held)
 out_held s Preview w m v n x held = omega (arith, held_is_one s.preview.hold w m held)
+out_held s Second w m v n x held = omega (arith, held_is_one s.second.hold w m held)
 
 -- what may be taken back ends a job
 pub out_some : (s : Slots) (p : Pipe) (w m : ℕ) → (at s p).hold ≡ held_by w m → 1 ≤ jobs_out s
@@ -169,6 +154,7 @@ settled_by_full script d = ((λ full. each full), (λ settled. settled Full refl
     each : IsUpToDate script d Full × IsFree d Full → IsSettled script d
     each full Full kept = full
     each full Preview kept = absurd cc
+    each full Second kept = absurd cc
 
 -- what each call of a desk leaves
 module _ (s : SubjectSeen) (count : ℕ) (j : Roomed Entry) (f : Roomed FrameSeen) (d : Desk) (v : DeskSeen)
@@ -180,7 +166,7 @@ module _ (s : SubjectSeen) (count : ℕ) (j : Roomed Entry) (f : Roomed FrameSee
       subst (Keeps s count j' f') (sym after) (keeps_push s count j j' f f' d e k may items shows room frame_room)
 
   pub keeps_changed : (j1 j2 : Roomed Entry) (d' : Desk) → May v.subject.script (now v) (Changed ((now v).moment + 1))
-      → j1.items ≡ j.items → 4 ≤ j1.room → j2.items ≡ j1.items ++ Changed (d.moment + 1) ∷ [] → j2.room + 1 ≡ j1.room
+      → j1.items ≡ j.items → 5 ≤ j1.room → j2.items ≡ j1.items ++ Changed (d.moment + 1) ∷ [] → j2.room + 1 ≡ j1.room
       → d' ≡ next d (Changed (d.moment + 1)) → Keeps s count j2 f d'
   keeps_changed j1 j2 d' may same room items less after =
       let e : Entry = Changed (d.moment + 1) in
@@ -195,7 +181,7 @@ module _ (s : SubjectSeen) (count : ℕ) (j : Roomed Entry) (f : Roomed FrameSee
       keeps_next j' f d' Closed here items (sym (append-nil f.items)) (omega (arith, k.room, less, one)) k.frame_room after
 
   pub keeps_took : (p : Pipe) (w : ℕ) (j1 j2 : Roomed Entry) (f' : Roomed FrameSeen) (d' : Desk) → May v.subject.script (now v) (Took p w (now v).moment)
-      → j1.items ≡ j.items → 4 ≤ j1.room → f'.items ≡ f.items → 2 ≤ f'.room
+      → j1.items ≡ j.items → 5 ≤ j1.room → f'.items ≡ f.items → 3 ≤ f'.room
       → j2.items ≡ j1.items ++ Took p w d.moment ∷ [] → j2.room + 1 ≡ j1.room
       → d' ≡ next d (Took p w d.moment) → Keeps s count j2 f' d'
   keeps_took p w j1 j2 f' d' may same room frames frame_room items less after =
@@ -206,7 +192,7 @@ module _ (s : SubjectSeen) (count : ℕ) (j : Roomed Entry) (f : Roomed FrameSee
 
   pub keeps_restarted : (name : JobName) (w m : ℕ) (p : Pipe) (w' : ℕ) (j1 j2 : Roomed Entry) (d' : Desk)
       → OfPipe name (λ q. IsSuperseded v.subject.script (now v) q w m) → name ≡ job.Pipe p → w' ≡ w
-      → j1.items ≡ j.items → 4 ≤ j1.room
+      → j1.items ≡ j.items → 5 ≤ j1.room
       → j2.items ≡ j1.items ++ Restarted p w' d.moment ∷ [] → j2.room + 1 ≡ j1.room
       → d' ≡ next d (Restarted p w' d.moment) → Keeps s count j2 f d'
   keeps_restarted name w m p w' j1 j2 d' row pipe same_worker same room items less after =

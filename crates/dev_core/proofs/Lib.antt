@@ -1,4 +1,3 @@
 pub mod BuiltLemmas
-pub mod LaterLemmas
 pub mod DeskLemmas
 pub mod OwnLemmas

@@ -7,7 +7,7 @@ use Rattle.std.specs.List.{filter}
 use Rattle.outside.specs.declared.job_name.JobName.{JobName}
 use Rattle.outside.specs.declared.job_name.JobName.TheVariants as job
 use Rattle.outside.specs.declared.job_name.Pipe.{Pipe}
-use Rattle.outside.specs.declared.job_name.Pipe.TheVariants.{Full, Preview}
+use Rattle.outside.specs.declared.job_name.Pipe.TheVariants.{Full, Preview, Second}
 use Rattle.edit_steps.specs.Script.{Recipe}
 use Rattle.dev_core.specs.declared.desk.Desk.{Desk}
 use Rattle.dev_core.specs.declared.desk.Hold.{Hold}
@@ -40,29 +40,43 @@ none_some l e = cc
 free_held : (w m : ℕ) → ◌≡◌ {A = Option Hold} None (held_by w m) → ⊥
 free_held w m e = cc
 
+-- what holds of one pipe's slot after one was put: of the new one at that pipe, of the old one at another
+slot_at : (s : Slots) (p q : Pipe) (x : Slot) (P : Slot → Type 0) → (p ≡ q → P x) → ((p ≡ q → ⊥) → P (at s q)) → P (at (put s p x) q)
+slot_at s Full Full x P same other = same refl
+slot_at s Full Preview x P same other = other (λ (e : Full ≡ Preview). cc)
+slot_at s Full Second x P same other = other (λ (e : Full ≡ Second). cc)
+slot_at s Preview Full x P same other = other (λ (e : Preview ≡ Full). cc)
+slot_at s Preview Preview x P same other = same refl
+slot_at s Preview Second x P same other = other (λ (e : Preview ≡ Second). cc)
+slot_at s Second Full x P same other = other (λ (e : Second ≡ Full). cc)
+slot_at s Second Preview x P same other = other (λ (e : Second ≡ Preview). cc)
+slot_at s Second Second x P same other = same refl
+
 -- the worker takes, or holds on to, one pipe
 taken_at : (s : Slots) (p q : Pipe) (w m k : ℕ) (x : Option ℕ) → ((r : Pipe) (i : ℕ) → (at s r).hold ≡ held_by w i → r ≡ p)
     → ((at (put s p (record { hold = held_by w m; published = x })) q).hold ≡ held_by w k) ↔ (◌≡◌ {A = Option Line} (Some (line p m)) (Some (line q k)))
-taken_at s Full Full w m k x alone = ((λ h. ap (λ i. Some (line Full i)) (same_moment w m w k h)), (λ e. ap (λ i. held_by w i) (line_moment (line Full m) (line Full k) e)))
-taken_at s Preview Preview w m k x alone = ((λ h. ap (λ i. Some (line Preview i)) (same_moment w m w k h)), (λ e. ap (λ i. held_by w i) (line_moment (line Preview m) (line Preview k) e)))
-taken_at s Full Preview w m k x alone = ((λ h. let e : Preview ≡ Full = alone Preview k h in absurd cc), (λ e. let n : job.Pipe Full ≡ job.Pipe Preview = line_job (line Full m) (line Preview k) e in absurd cc))
-taken_at s Preview Full w m k x alone = ((λ h. let e : Full ≡ Preview = alone Full k h in absurd cc), (λ e. let n : job.Pipe Preview ≡ job.Pipe Full = line_job (line Preview m) (line Full k) e in absurd cc))
+taken_at s p q w m k x alone =
+    slot_at s p q (record { hold = held_by w m; published = x }) (λ y. (y.hold ≡ held_by w k) ↔ (◌≡◌ {A = Option Line} (Some (line p m)) (Some (line q k)))) (λ same. (
+      (λ h. ap (λ i. Some (line p i)) (same_moment w m w k h) ∙ ap (λ r. Some (line r k)) same),
+      (λ e. ap (λ i. held_by w i) (line_moment (line p m) (line q k) e)),
+    )) (λ differ. (
+      (λ h. absurd (differ (sym (alone q k h)))),
+      (λ e. let n : job.Pipe p ≡ job.Pipe q = line_job (line p m) (line q k) e in absurd (differ cc)),
+    ))
 
 -- the worker leaves its one pipe
 freed_at : (s : Slots) (p q : Pipe) (w k : ℕ) (x : Option ℕ) → ((r : Pipe) (i : ℕ) → (at s r).hold ≡ held_by w i → r ≡ p)
     → ((at (put s p (record { hold = None; published = x })) q).hold ≡ held_by w k) ↔ (◌≡◌ {A = Option Line} None (Some (line q k)))
-freed_at s Full Full w k x alone = ((λ h. absurd (free_held w k h)), (λ e. absurd (none_some (line Full k) e)))
-freed_at s Preview Preview w k x alone = ((λ h. absurd (free_held w k h)), (λ e. absurd (none_some (line Preview k) e)))
-freed_at s Full Preview w k x alone = ((λ h. let e : Preview ≡ Full = alone Preview k h in absurd cc), (λ e. absurd (none_some (line Preview k) e)))
-freed_at s Preview Full w k x alone = ((λ h. let e : Full ≡ Preview = alone Full k h in absurd cc), (λ e. absurd (none_some (line Full k) e)))
+freed_at s p q w k x alone =
+    slot_at s p q (record { hold = None; published = x }) (λ y. (y.hold ≡ held_by w k) ↔ (◌≡◌ {A = Option Line} None (Some (line q k))))
+    (λ same. ((λ h. absurd (free_held w k h)), (λ e. absurd (none_some (line q k) e)))) (λ differ. ((λ h. absurd (differ (sym (alone q k h)))), (λ e. absurd (none_some (line q k) e))))
 
 -- another worker's pipe changes
 other_at : (s : Slots) (p q : Pipe) (x : Slot) (n k : ℕ) (B : Type 0) → ((i : ℕ) → x.hold ≡ held_by n i → ⊥) → ((i : ℕ) → (at s p).hold ≡ held_by n i → ⊥)
     → (((at s q).hold ≡ held_by n k) ↔ B) → ((at (put s p x) q).hold ≡ held_by n k) ↔ B
-other_at s Full Full x n k B after before says = ((λ h. absurd (after k h)), (λ b. absurd (before k (says.1 b))))
-other_at s Preview Preview x n k B after before says = ((λ h. absurd (after k h)), (λ b. absurd (before k (says.1 b))))
-other_at s Full Preview x n k B after before says = says
-other_at s Preview Full x n k B after before says = says
+other_at s p q x n k B after before says =
+    slot_at s p q x (λ y. (y.hold ≡ held_by n k) ↔ B)
+    (λ same. ((λ h. absurd (after k h)), (λ b. absurd (before k (ap (λ r. (at s r).hold) same ∙ says.1 b))))) (λ differ. says)
 
 -- a worker that has a pipe has no other
 alone : (d : Desk) (w m : ℕ) (p : Pipe) (has : Option Line) → Says d w has → HoldsPipe d w p m → (r : Pipe) (i : ℕ) → HoldsPipe d w r i → r ≡ p
@@ -137,6 +151,7 @@ own_says script n (e ∷ es) d has says legal =
 says_start : (n : ℕ) → Says start n None
 says_start n (job.Pipe Full) m = ((λ h. absurd (free_held n m h)), (λ e. absurd (none_some (line Full m) e)))
 says_start n (job.Pipe Preview) m = ((λ h. absurd (free_held n m h)), (λ e. absurd (none_some (line Preview m) e)))
+says_start n (job.Pipe Second) m = ((λ h. absurd (free_held n m h)), (λ e. absurd (none_some (line Second m) e)))
 says_start n (job.Ticket t) m = no_line t m
 
 -- after a legal journal, a worker has what its own entries say

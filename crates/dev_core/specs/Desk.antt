@@ -3,7 +3,7 @@ use Rattle.std.specs.Prelude.{◌≡◌, ℕ, ◌+◌, ◌<◌, IsTrue, List, []
 use Rattle.outside.specs.declared.job_name.JobName.{JobName}
 use Rattle.outside.specs.declared.job_name.JobName.TheVariants as job
 use Rattle.outside.specs.declared.job_name.Pipe.{Pipe}
-use Rattle.outside.specs.declared.job_name.Pipe.TheVariants.{Full, Preview}
+use Rattle.outside.specs.declared.job_name.Pipe.TheVariants.{Full, Preview, Second}
 use Rattle.edit_steps.specs.declared.step.Step.{Step}
 use Rattle.edit_steps.specs.Changes.{is_change}
 use Rattle.edit_steps.specs.Script.{Recipe, concerns_between}
@@ -20,6 +20,7 @@ use Rattle.dev_core.specs.declared.entry.NextStep.TheVariants as next_is
 abbrev pub is_kept : Pipe → Bool
 is_kept Full = true
 is_kept Preview = false
+is_kept Second = false
 
 -- one of the changes after the first a, and among the first b, concerns the pipe
 abbrev pub Later : Recipe → Pipe → ℕ → ℕ → Type 0
@@ -34,10 +35,12 @@ pub record ChangesNext (script : Recipe) (d : Desk) : Type 0 where
 abbrev pub at : Slots → Pipe → Slot
 at s Full = s.full
 at s Preview = s.preview
+at s Second = s.second
 
 abbrev pub put : Slots → Pipe → Slot → Slots
 put s Full x = record s { full = x }
 put s Preview x = record s { preview = x }
+put s Second x = record s { second = x }
 
 abbrev pub with_slot : Desk → Pipe → Slot → Desk
 with_slot d p x = record d { slots = put d.slots p x }
@@ -51,7 +54,7 @@ no_slot = record { hold = None; published = None }
 
 -- the desk before the first entry
 abbrev pub start : Desk
-start = record { steps = 0; moment = 0; closed = false; slots = record { full = no_slot; preview = no_slot } }
+start = record { steps = 0; moment = 0; closed = false; slots = record { full = no_slot; preview = no_slot; second = no_slot } }
 
 -- the desk after one more entry
 abbrev pub next : Desk → Entry → Desk

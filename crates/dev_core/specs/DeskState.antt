@@ -33,7 +33,7 @@ one_out None = 0
 one_out (Some h) = 1
 
 abbrev pub jobs_out : Slots → ℕ
-jobs_out s = one_out s.full.hold + one_out s.preview.hold
+jobs_out s = one_out s.full.hold + (one_out s.preview.hold + one_out s.second.hold)
 
 -- the entries that must find room: one for the end of each job that is out, and one for the close
 abbrev pub owed : Desk → ℕ

@@ -14,6 +14,7 @@ fn is_kept(pipe: Pipe) -> bool
     match pipe {
         Pipe::Full => true,
         Pipe::Preview => false,
+        Pipe::Second => false,
     }
 }
 

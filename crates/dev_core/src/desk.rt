@@ -23,6 +23,7 @@ pub(crate) struct Slot {
 pub(crate) struct Slots {
     pub(crate) full: Slot,
     pub(crate) preview: Slot,
+    pub(crate) second: Slot,
 }
 
 /// How many steps were made, the moment, whether the editor has closed, and the pipes.
@@ -51,6 +52,7 @@ impl Slots {
         match pipe {
             Pipe::Full => self.full,
             Pipe::Preview => self.preview,
+            Pipe::Second => self.second,
         }
     }
 
@@ -58,13 +60,14 @@ impl Slots {
         ensures { result ≡ put self pipe slot }
     {
         match pipe {
-            Pipe::Full => Slots {
-                full: slot,
-                preview: self.preview,
-            },
+            Pipe::Full => Slots { full: slot, ..self },
             Pipe::Preview => Slots {
-                full: self.full,
                 preview: slot,
+                ..self
+            },
+            Pipe::Second => Slots {
+                second: slot,
+                ..self
             },
         }
     }
@@ -109,6 +112,7 @@ impl Desk {
             slots: Slots {
                 full: no_slot(),
                 preview: no_slot(),
+                second: no_slot(),
             },
         }
     }

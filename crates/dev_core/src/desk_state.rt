@@ -22,10 +22,10 @@ use std::sync::Arc;
 
 /// The room that is made before a job is taken: for this entry, for the last entry of each job that is
 /// out, and for the close.
-const ROOM: usize = 4;
+const ROOM: usize = 5;
 
 /// How many jobs of pipes are out at most.
-const JOBS: usize = 2;
+const JOBS: usize = 3;
 
 /// A desk, seen as its subject and its journal. The journal is legal at all times: each entry stands
 /// where it may after those before it. Each job that was done has its frame, in the journal's order.

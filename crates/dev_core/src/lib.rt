@@ -15,8 +15,6 @@ mod job;
 mod room;
 mod showing;
 mod subject;
-#[cfg(test)]
-mod tests;
 
 pub use built::is_built;
 pub use desk_state::DeskState;

@@ -1,13 +1,14 @@
 -- what `stepped` makes of its files
-use Rattle.std.specs.Prelude.{◌≡◌, ◌↔◌, ℕ, ◌≤◌, ⊤, List, length, IsTrue, Option, IfSome}
+use Rattle.std.specs.Prelude.{◌≡◌, ◌↔◌, ℕ, ◌≤◌, ⊤, List, length, IsTrue, Option, None, IfSome}
 use Rattle.std.specs.List.{All}
+use Rattle.px.specs.declared.kind.Cfa.{Cfa}
 use Rattle.px.specs.Picture.{Picture}
 use Rattle.px.specs.Cut.{picture_of}
 use Rattle.outside.specs.Shelf.{Files}
 use Rattle.edit_steps.specs.declared.step.Step.{Step}
 use Rattle.edit_steps.specs.declared.step.Step.TheVariants as steps
 use Rattle.edit_steps.specs.Script.{Recipe}
-use Rattle.edit_script.specs.Settings.{start_view}
+use Rattle.edit_steps.specs.Settings.{start_view}
 use Rattle.dev_core.specs.Built.{IsBuiltScript}
 use Rattle.dev_core.specs.Desk.{IsComplete}
 use Rattle.dev_core.specs.Lines.{Line, lines}
@@ -21,34 +22,43 @@ use Rattle.develop_session.specs.Files.{HasScript, HasSource, HasEvents}
 use Rattle.develop_session.specs.declared.tally.Tally.{Tally}
 use Rattle.develop_session.specs.Words.{Replay}
 
--- at most 720 pixels wide and 480 high
+-- at most 480 pixels wide and high, so that the default view shows it whole, also when it is turned
 pub record IsSmall (q : Picture) : Type 0 where
-  pub wide : q.w ≤ 720
+  pub wide : q.w ≤ 480
   pub high : q.h ≤ 480
 
-abbrev pub IsEdit : Step → Type 0
-IsEdit (steps.Edit edit) = ⊤
-IsEdit _ = ⊥
+-- the desk serves the step so far
+abbrev pub IsServedStep : Step → Type 0
+IsServedStep (steps.Edit edit) = ⊤
+IsServedStep steps.Undo = ⊤
+IsServedStep steps.Redo = ⊤
+IsServedStep (steps.View view) = ⊥
+IsServedStep (steps.Second view) = ⊥
+IsServedStep (steps.Export size depth) = ⊥
+IsServedStep (steps.Thumbnail size) = ⊥
+IsServedStep steps.Settle = ⊥
 
--- a replay serves the script so far: a run can make each picture of it, each step is an edit, and the view is the default
+-- a replay serves the script so far: a run can make each picture of it, the desk serves each step, the view is the default, and there
+-- is no second window
 pub record IsServed (script : Recipe) : Type 0 where
   pub built : IsBuiltScript script
-  pub edits : All IsEdit script.steps
+  pub steps : All IsServedStep script.steps
   pub view : script.settings.view ≡ start_view
+  pub second : script.settings.second ≡ None
 
 -- script and source stand there, and this is their subject
 pub record HasSubject (c : Replay) (fs : Files) (s : SubjectSeen) : Type 0 where
   pub script : HasScript c.script fs s.script
   pub served : IsServed s.script
-  pub source : HasSource c.source fs (picture_of s.source)
+  pub source : HasSource c.source s.script.settings.cfa fs (picture_of s.source)
   pub small : IsSmall (picture_of s.source)
 
 abbrev pub HasSomeSubject : Replay → Files → Type 0
 HasSomeSubject c fs = (s : SubjectSeen) × HasSubject c fs s
 
 -- the file under the name is a picture that isn't small
-abbrev pub HasLargeSource : List ℕ → Files → Type 0
-HasLargeSource name fs = (q : Picture) × HasSource name fs q × (IsSmall q → ⊥)
+abbrev pub HasLargeSource : List ℕ → Option Cfa → Files → Type 0
+HasLargeSource name cfa fs = (q : Picture) × HasSource name cfa fs q × (IsSmall q → ⊥)
 
 -- subject and events stand there
 pub record HasReplay (c : Replay) (s : SubjectSeen) (events : List Event) (fs : Files) : Type 0 where

@@ -1,44 +1,49 @@
 //! Scripts that a replay serves so far.
 ghost use Rattle.std.specs.Prelude.{◌≡◌, ◌↔◌, IsTrue};
 ghost use Rattle.std.specs.List.{All};
-ghost use Rattle.edit_script.specs.Settings.{start_view};
-ghost use Rattle.develop_session.specs.Replay.{IsEdit, IsServed};
+ghost use Rattle.edit_steps.specs.Settings.{start_view};
+ghost use Rattle.develop_session.specs.Replay.{IsServedStep, IsServed};
 
 use dev_core::is_built;
-use edit_steps::{Script, Step};
+use edit_steps::{Script, Settings, Step};
 use px::View;
 
-fn is_edit(step: &Step) -> bool
-    ensures { IsTrue result ↔ IsEdit step.now }
+// Whether the desk serves the step so far.
+fn is_served_step(step: &Step) -> bool
+    ensures { IsTrue result ↔ IsServedStep step.now }
 {
-    matches!(step, Step::Edit(_))
+    match step {
+        Step::Edit(_) | Step::Undo | Step::Redo => true,
+        Step::View(_)
+        | Step::Second(_)
+        | Step::Export { .. }
+        | Step::Thumbnail { .. }
+        | Step::Settle => false,
+    }
 }
 
-fn are_edits(steps: &[Step]) -> bool
-    ensures { IsTrue result ↔ All IsEdit steps.now }
+fn are_served_steps(steps: &[Step]) -> bool
+    ensures { IsTrue result ↔ All IsServedStep steps.now }
 {
-    steps.iter().all(|step| is_edit(step))
+    steps.iter().all(|step| is_served_step(step))
 }
 
 // Whether the view is the one that shows a small picture whole.
 fn is_default(view: View) -> bool
     ensures { IsTrue result ↔ (view ≡ start_view) }
 {
-    view == View {
-        factor: 1,
-        cx: 32_768,
-        cy: 32_768,
-        w: 720,
-        h: 480,
-    }
+    view == Settings::start().view
 }
 
-/// Whether a replay serves the script so far: a run can make each picture of it, each step is an edit, and
-/// the view is the default.
+/// Whether a replay serves the script so far: a run can make each picture of it, each step is an edit, an
+/// undo or a redo, the view is the default, and there is no second window.
 pub(crate) fn is_served(script: &Script) -> bool
     ensures { IsTrue result ↔ IsServed script.now }
 {
-    if !is_built(script) || !are_edits(script.steps()) {
+    if !is_built(script) || !are_served_steps(script.steps()) {
+        return false;
+    }
+    if script.settings().second.is_some() {
         return false;
     }
     is_default(script.settings().view)

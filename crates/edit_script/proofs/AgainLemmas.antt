@@ -1,12 +1,12 @@
 -- What is written for settings, items and steps has the form that is read, and says the same.
-use Rattle.std.proofs.Common.{◌≡◌, ℕ, ◌*◌, ◌^◌, ◌<◌, ◌≤◌, ℤ, pos, ◌≤ℤ◌, Bool, true, ◌&&◌, List, Option, Some, None, option_and_then, Result, Ok, IfSome, refl, ap, ◌∙◌, arith, codes}
-use Rattle.std.specs.Prelude.{nat_le, if◌then◌else◌}
+use Rattle.std.proofs.Common.{◌≡◌, ℕ, ◌*◌, ◌^◌, ◌<◌, ◌≤◌, ℤ, pos, ◌≤ℤ◌, Bool, true, false, ◌&&◌, List, Option, Some, None, option_and_then, Result, Ok, IfSome, refl, ap, ◌∙◌, arith, codes}
+use Rattle.std.specs.Prelude.{nat_le, if◌then◌else◌, is_some}
 use Rattle.std.specs.Bool.{Decides}
 use Rattle.std.specs.Int.RustNames.{int_le}
 use Rattle.std.proofs.lemmas.Bool.Decides.{Decides-and, nat_tests}
 use Rattle.std.proofs.lemmas.Int.{ints}
 use Rattle.serde_json.specs.Data.{Data, boolean}
-use Rattle.serde_json.specs.Find.{get}
+use Rattle.serde_json.specs.Find.{get, as_null}
 use Rattle.px.specs.declared.depth.Depth.{Depth}
 use Rattle.px.specs.declared.depth.Depth.TheVariants.{Eight, Sixteen}
 use Rattle.px.specs.declared.kind.Cfa.{Cfa}
@@ -37,7 +37,7 @@ use Rattle.edit_script.specs.Parts.{depth_form, cfa_form, sides_form, view_at_ke
 use Rattle.edit_script.specs.Settings.{settings_at_keys, settings_form}
 use Rattle.edit_script.specs.Item.{formed, blend_at, module_at, params_at, blend_in, item_of, item_at_keys, item_form}
 use Rattle.edit_script.specs.Step.{select_form, add_form, move_form, delete_form, export_form, thumbnail_form, set_form, step_form}
-use Rattle.edit_script.specs.Written.{cfa_data, depth_data, box_data, box_or_null, view_data, settings_data, module_word, item_data, set_data, select_data, word_data, placed_data, delete_data, edit_data, view_step_data, export_data, thumbnail_data, step_data}
+use Rattle.edit_script.specs.Written.{cfa_data, depth_data, box_data, box_or_null, view_data, view_or_null, settings_data, module_word, item_data, set_data, select_data, word_data, placed_data, delete_data, edit_data, view_step_data, export_data, thumbnail_data, step_data}
 use Rattle.edit_script.specs.Typed.{IsItemTyped, IsEditTyped, IsStepTyped}
 use Rattle.edit_script.proofs.TypedLemmas.{blend_within_at}
 
@@ -101,9 +101,19 @@ view_from d v h a b c e f =
     (natural_at_back (codes "w") 1 16384 v.w d e h.wide h.not_too_wide (omega (arith, h.not_too_wide)))
     (natural_at_back (codes "h") 1 16384 v.h d f h.high h.not_too_high (omega (arith, h.not_too_high)))
 
+view_there : (v : View) → is_some (as_null (view_data v)) ≡ false
+unfolding view_data
+view_there v = refl
+
 view_back : (v : View) → IsView v → view_form (view_data v) ≡ Some v
 unfolding view_data
 view_back v h = view_from (view_data v) v h refl refl refl refl refl
+
+second_back : (o : Option View) → IfSome o IsView → null_or view_form (view_or_null o) ≡ Some o
+second_back None h = refl
+second_back (Some v) h =
+    let there : is_some (as_null (view_data v)) ≡ false = view_there v in
+    rw (there, view_back v h) refl
 
 pub settings_back : (s : Settings) → IsSettings s → settings_form (settings_data s) ≡ Some s
 unfolding settings_at_keys settings_data
@@ -116,7 +126,9 @@ settings_back s h =
       natural_back 1 64 s.stage_entries h.some_entries h.few_entries (omega (arith, h.few_entries)),
       natural_back 0 33554432 s.stage_pixels (omega arith) h.few_pixels (omega (arith, h.few_pixels)),
       natural_back 1 4 s.mip_slots h.some_slots h.few_slots (omega (arith, h.few_slots)),
+      natural_back 1 64 s.undo_depth h.some_undo h.small_undo (omega (arith, h.small_undo)),
       view_back s.view h.view,
+      second_back s.second h.second,
     ) refl
 
 -- ---- items
@@ -172,6 +184,14 @@ compress_back : step_form (word_data (codes "compress")) ≡ Some (Ok (steps.Edi
 unfolding step_form word_data
 compress_back = refl
 
+undo_back : step_form (word_data (codes "undo")) ≡ Some (Ok steps.Undo)
+unfolding step_form word_data
+undo_back = refl
+
+redo_back : step_form (word_data (codes "redo")) ≡ Some (Ok steps.Redo)
+unfolding step_form word_data
+redo_back = refl
+
 settle_back : step_form (word_data (codes "settle")) ≡ Some (Ok steps.Settle)
 unfolding step_form word_data
 settle_back = refl
@@ -188,9 +208,13 @@ delete_back : (m : Module) (instance : ℕ) → instance ≤ 255 → step_form (
 unfolding step_form delete_form delete_data
 delete_back m instance g = rw (module_back m, natural_back 0 255 instance (omega arith) g (omega arith)) refl
 
-view_step_back : (v : View) → IsView v → step_form (view_step_data v) ≡ Some (Ok (steps.View v))
+view_step_back : (v : View) → IsView v → step_form (view_step_data (codes "view") v) ≡ Some (Ok (steps.View v))
 unfolding step_form view_step_data
-view_step_back v h = rw (view_from (view_step_data v) v h refl refl refl refl refl) refl
+view_step_back v h = rw (view_from (view_step_data (codes "view") v) v h refl refl refl refl refl) refl
+
+second_step_back : (v : View) → IsView v → step_form (view_step_data (codes "second") v) ≡ Some (Ok (steps.Second v))
+unfolding step_form view_step_data
+second_step_back v h = rw (view_from (view_step_data (codes "second") v) v h refl refl refl refl refl) refl
 
 box_back : (size : Option BoxSize) → IfSome size IsBox → null_or (sides_form 16384) (box_or_null size) ≡ Some size
 box_back None h = refl
@@ -215,7 +239,10 @@ edit_back (edits.Move m instance place) h t = move_back m instance place t h
 -- what is written for a step is read as the step
 pub step_back : (s : Step) → IsStepWithin s → IsStepTyped s → step_form (step_data s) ≡ Some (Ok s)
 step_back (steps.Edit edit) h t = edit_back edit h t
+step_back steps.Undo h t = undo_back
+step_back steps.Redo h t = redo_back
 step_back (steps.View view) h t = view_step_back view h
+step_back (steps.Second view) h t = second_step_back view h
 step_back (steps.Export size depth) h t = export_back size depth h
 step_back (steps.Thumbnail size) h t = thumbnail_back size h
 step_back steps.Settle h t = settle_back

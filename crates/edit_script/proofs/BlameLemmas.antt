@@ -1,6 +1,6 @@
 -- No script is refused because an edit holds values outside their ranges: these are faults of their own, and come first.
 use Rattle.std.proofs.Common.{◌≡◌, ℕ, ◌+◌, List, [], ◌∷◌, length, Bool, true, false, not, Option, Some, None, option_map, Result, Ok, Err, IfSome, IfErr, refl, ap, subst, ◌∙◌, codes}
-use Rattle.std.specs.Prelude.{nat_lt, nat_le, count_by, slice_get, if◌then◌else◌}
+use Rattle.std.specs.Prelude.{nat_lt, nat_le, is_some, count_by, slice_get, if◌then◌else◌}
 use Rattle.std.specs.List.{All, filter_map, cons_option}
 use Rattle.std.specs.Option.{option_or}
 use Rattle.serde_json.specs.Data.{Data, Items, no_items, item}
@@ -31,8 +31,9 @@ use Rattle.edit_steps.specs.declared.fault.ScriptEnd.{ScriptEnd}
 use Rattle.edit_steps.specs.declared.fault.ScriptEnd.TheVariants as ends
 use Rattle.edit_steps.specs.declared.step.Step.{Step}
 use Rattle.edit_steps.specs.declared.step.Step.TheVariants as steps
-use Rattle.edit_steps.specs.Changes.{is_change, history_after}
-use Rattle.edit_steps.specs.Faults.{is_export, is_thumbnail, is_settle, limit_fault, history_fault, step_fault, next_fault, fault_behind}
+use Rattle.edit_steps.specs.declared.settings.Settings.{Settings}
+use Rattle.edit_steps.specs.Changes.{is_change, Histories, first_histories, histories_after}
+use Rattle.edit_steps.specs.Faults.{is_export, is_thumbnail, is_settle, limit_fault, window_fault, unless_some, history_fault, step_fault, next_fault, fault_behind}
 use Rattle.edit_steps.specs.Ranges.{IsEditWithin, IsStepWithin}
 use Rattle.edit_steps.specs.Script.{Recipe, recipe, with_step}
 use Rattle.edit_script.specs.Binds.{◌>>=◌}
@@ -168,7 +169,10 @@ reason_if false reason h = tt
 
 limit_other : (before : List Step) (s : Step) → IfSome (limit_fault before s) IsOtherReason
 limit_other before (steps.Edit edit) = reason_if (nat_le 256 (count_by is_change before)) reasons.TooManyChanges refl
+limit_other before steps.Undo = reason_if (nat_le 256 (count_by is_change before)) reasons.TooManyChanges refl
+limit_other before steps.Redo = reason_if (nat_le 256 (count_by is_change before)) reasons.TooManyChanges refl
 limit_other before (steps.View view) = reason_if (nat_le 256 (count_by is_change before)) reasons.TooManyChanges refl
+limit_other before (steps.Second view) = reason_if (nat_le 256 (count_by is_change before)) reasons.TooManyChanges refl
 limit_other before (steps.Export size depth) = reason_if (nat_le 8 (count_by is_export before)) reasons.TooManyExports refl
 limit_other before (steps.Thumbnail size) = reason_if (nat_le 16 (count_by is_thumbnail before)) reasons.TooManyThumbnails refl
 limit_other before steps.Settle = reason_if (nat_le 256 (count_by is_settle before)) reasons.TooManySettles refl
@@ -177,12 +181,33 @@ edit_reason : (o : Option EditFault) → IfSome o IsOther → IfSome (option_map
 edit_reason None h = tt
 edit_reason (Some e) h = h
 
-history_other : (h : Stack) (s : Step) → IsStepWithin s → IfSome (history_fault h s) IsOtherReason
-history_other h (steps.Edit edit) w = edit_reason (edit_fault h edit) (edit_other h edit w)
-history_other h (steps.View view) w = tt
-history_other h (steps.Export size depth) w = tt
-history_other h (steps.Thumbnail size) w = tt
-history_other h steps.Settle w = tt
+no_window_if : (there : Bool) → IfSome (if there then None else Some reasons.NoSecond) IsOtherReason
+no_window_if true = tt
+no_window_if false = refl
+
+window_other : (settings : Settings) (s : Step) → IfSome (window_fault settings s) IsOtherReason
+window_other settings (steps.Edit edit) = tt
+window_other settings steps.Undo = tt
+window_other settings steps.Redo = tt
+window_other settings (steps.View view) = tt
+window_other settings (steps.Second view) = no_window_if (is_some settings.second)
+window_other settings (steps.Export size depth) = tt
+window_other settings (steps.Thumbnail size) = tt
+window_other settings steps.Settle = tt
+
+unless_other : (reason : Reason) (hs : List Stack) → IsOtherReason reason → IfSome (unless_some reason hs) IsOtherReason
+unless_other reason [] h = h
+unless_other reason (x ∷ xs) h = tt
+
+history_other : (hs : Histories) (s : Step) → IsStepWithin s → IfSome (history_fault hs s) IsOtherReason
+history_other hs (steps.Edit edit) w = edit_reason (edit_fault hs.present edit) (edit_other hs.present edit w)
+history_other hs steps.Undo w = unless_other reasons.NothingToUndo hs.past refl
+history_other hs steps.Redo w = unless_other reasons.NothingToRedo hs.future refl
+history_other hs (steps.View view) w = tt
+history_other hs (steps.Second view) w = tt
+history_other hs (steps.Export size depth) w = tt
+history_other hs (steps.Thumbnail size) w = tt
+history_other hs steps.Settle w = tt
 
 or_reason : (a b : Option Reason) → IfSome a IsOtherReason → IfSome b IsOtherReason → IfSome (option_or a b) IsOtherReason
 or_reason None b h k = k
@@ -195,11 +220,13 @@ behind_own before (Some r) x h = h
 step_own : (r : Recipe) (d : Data) → IfErr (step_behind r d) HasNoBadParams
 unfolding step_behind
 step_own r d =
-    then_own (or_form (length r.steps + 1) (step_form d)) (λ formed. or_param (length r.steps + 1) formed >>= λ step. unless (next_fault r.opening r.steps step) (with_step r step)) (form_own (length r.steps + 1) (step_form d)) (λ formed e.
-    then_own (or_param (length r.steps + 1) formed) (λ step. unless (next_fault r.opening r.steps step) (with_step r step)) (param_own (length r.steps + 1) formed) (λ step f.
+    then_own (or_form (length r.steps + 1) (step_form d)) (λ formed. or_param (length r.steps + 1) formed >>= λ step. unless (next_fault r.settings r.opening r.steps step) (with_step r step)) (form_own (length r.steps + 1) (step_form d)) (λ formed e.
+    then_own (or_param (length r.steps + 1) formed) (λ step. unless (next_fault r.settings r.opening r.steps step) (with_step r step)) (param_own (length r.steps + 1) formed) (λ step f.
     let read : step_form d ≡ Some (Ok step) = form_is (length r.steps + 1) (step_form d) formed e ∙ ap Some (param_is (length r.steps + 1) formed step f) in
-    behind_own r.steps (step_fault r.opening r.steps step) (with_step r step)
-    (or_reason (limit_fault r.steps step) (history_fault (history_after r.opening r.steps) step) (limit_other r.steps step) (history_other (history_after r.opening r.steps) step (step_on_ok d step read)))))
+    let hs = histories_after (first_histories r.settings r.opening) r.steps in
+    behind_own r.steps (step_fault r.settings r.opening r.steps step) (with_step r step)
+    (or_reason (limit_fault r.steps step) (option_or (window_fault r.settings step) (history_fault hs step)) (limit_other r.steps step)
+    (or_reason (window_fault r.settings step) (history_fault hs step) (window_other r.settings step) (history_other hs step (step_on_ok d step read))))))
 
 steps_own : (r : Recipe) (ds : Items) → IfErr (steps_behind r ds) HasNoBadParams
 steps_own r no_items = tt

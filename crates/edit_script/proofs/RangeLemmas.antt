@@ -1,21 +1,23 @@
 -- What the forms give is within its ranges.
 use Rattle.std.proofs.Common.{◌≡◌, ℕ, ◌*◌, ◌≤◌, ℤ, pos, negsuc, ◌≤ℤ◌, Bool, true, false, ◌&&◌, List, Option, Some, None, option_map, option_and_then, IfSome, refl, subst, arith, codes}
-use Rattle.std.specs.Prelude.{nat_le, if◌then◌else◌, unwrap_or}
+use Rattle.std.specs.Prelude.{nat_le, if◌then◌else◌, unwrap_or, is_some}
 use Rattle.std.specs.Bool.{Decides}
 use Rattle.std.specs.Int.RustNames.{int_le}
 use Rattle.std.proofs.lemmas.Bool.Decides.{Decides-and, nat_tests}
 use Rattle.std.proofs.lemmas.Int.{ints}
 use Rattle.serde_json.specs.Data.{Data, object, no_members}
-use Rattle.serde_json.specs.Find.{get}
+use Rattle.serde_json.specs.Find.{get, as_null}
 use Rattle.px.specs.declared.depth.Depth.{Depth}
 use Rattle.px.specs.declared.depth.Depth.TheVariants.{Eight}
 use Rattle.px.specs.declared.kind.Cfa.{Cfa}
 use Rattle.px.specs.declared.view.View.{View}
 use Rattle.px.specs.declared.view.BoxSize.{BoxSize}
 use Rattle.params.specs.Form.{has_only, pair, ◌>>=◌, integer, natural, natural_at, natural_or, within, natural_of, or_absent}
+use Rattle.params.specs.Stated.{null_or}
 use Rattle.edit_steps.specs.Ranges.{IsView, IsSettings}
 use Rattle.edit_script.specs.Parts.{view_keys, depth_form, cfa_form, sides_form, view_at_keys, view_form}
-use Rattle.edit_script.specs.Settings.{start_view, settings_keys, settings_at_keys, settings_in}
+use Rattle.edit_steps.specs.Settings.{start_view, start_settings}
+use Rattle.edit_script.specs.Settings.{settings_keys, settings_at_keys, settings_in}
 
 -- ---- chains
 
@@ -118,33 +120,56 @@ sides_within longest d = sides_of longest (pair d)
 start_within : IsView start_view
 start_within = record { some_factor = omega arith; small_factor = omega arith; across = omega arith; down = omega arith; wide = omega arith; not_too_wide = omega arith; high = omega arith; not_too_high = omega arith; small = omega arith }
 
-settings_of : (cfa : Option (Option Cfa)) (depth : Option Depth) (a b c e f : Option ℕ) (g : Option View)
-    → IfSome a (Between 64 720) → IfSome b (Between 1 4) → IfSome c (Between 1 64) → IfSome e (Between 0 33554432) → IfSome f (Between 1 4) → IfSome g IsView
-    → IfSome (cfa >>= λ cfa. depth >>= λ depth. a >>= λ side. b >>= λ workers. c >>= λ entries. e >>= λ pixels. f >>= λ slots. g >>= λ view.
-    Some (record { cfa = cfa; depth = depth; preview_side = side; workers = workers; stage_entries = entries; stage_pixels = pixels; mip_slots = slots; view = view })) IsSettings
-settings_of None depth a b c e f g p q r s t u = tt
-settings_of (Some cfa) None a b c e f g p q r s t u = tt
-settings_of (Some cfa) (Some depth) None b c e f g p q r s t u = tt
-settings_of (Some cfa) (Some depth) (Some side) None c e f g p q r s t u = tt
-settings_of (Some cfa) (Some depth) (Some side) (Some workers) None e f g p q r s t u = tt
-settings_of (Some cfa) (Some depth) (Some side) (Some workers) (Some entries) None f g p q r s t u = tt
-settings_of (Some cfa) (Some depth) (Some side) (Some workers) (Some entries) (Some pixels) None g p q r s t u = tt
-settings_of (Some cfa) (Some depth) (Some side) (Some workers) (Some entries) (Some pixels) (Some slots) None p q r s t u = tt
-settings_of (Some cfa) (Some depth) (Some side) (Some workers) (Some entries) (Some pixels) (Some slots) (Some view) p q r s t u =
-    record { some_side = p.0; small_side = p.1; some_workers = q.0; few_workers = q.1; some_entries = r.0; few_entries = r.1; few_pixels = s.1; some_slots = t.0; few_slots = t.1; view = u }
+null_case : (b : Bool) (o : Option View) → IfSome o IsView → IfSome (if b then Some None else option_map Some o) (λ w. IfSome w IsView)
+null_case true o h = tt
+null_case false None h = tt
+null_case false (Some v) h = h
+
+settings_of : (cfa : Option (Option Cfa)) (depth : Option Depth) (a b c e f g : Option ℕ) (i : Option View) (j : Option (Option View))
+    → IfSome a (Between 64 720) → IfSome b (Between 1 4) → IfSome c (Between 1 64) → IfSome e (Between 0 33554432) → IfSome f (Between 1 4) → IfSome g (Between 1 64) → IfSome i IsView → IfSome j (λ w. IfSome w IsView)
+    → IfSome (cfa >>= λ cfa. depth >>= λ depth. a >>= λ side. b >>= λ workers. c >>= λ entries. e >>= λ pixels. f >>= λ slots. g >>= λ undos. i >>= λ view. j >>= λ second.
+    Some (record { cfa = cfa; depth = depth; preview_side = side; workers = workers; stage_entries = entries; stage_pixels = pixels; mip_slots = slots; undo_depth = undos; view = view; second = second })) IsSettings
+settings_of None depth a b c e f g i j p q r s t u v w = tt
+settings_of (Some cfa) None a b c e f g i j p q r s t u v w = tt
+settings_of (Some cfa) (Some depth) None b c e f g i j p q r s t u v w = tt
+settings_of (Some cfa) (Some depth) (Some side) None c e f g i j p q r s t u v w = tt
+settings_of (Some cfa) (Some depth) (Some side) (Some workers) None e f g i j p q r s t u v w = tt
+settings_of (Some cfa) (Some depth) (Some side) (Some workers) (Some entries) None f g i j p q r s t u v w = tt
+settings_of (Some cfa) (Some depth) (Some side) (Some workers) (Some entries) (Some pixels) None g i j p q r s t u v w = tt
+settings_of (Some cfa) (Some depth) (Some side) (Some workers) (Some entries) (Some pixels) (Some slots) None i j p q r s t u v w = tt
+settings_of (Some cfa) (Some depth) (Some side) (Some workers) (Some entries) (Some pixels) (Some slots) (Some undos) None j p q r s t u v w = tt
+settings_of (Some cfa) (Some depth) (Some side) (Some workers) (Some entries) (Some pixels) (Some slots) (Some undos) (Some view) None p q r s t u v w = tt
+settings_of (Some cfa) (Some depth) (Some side) (Some workers) (Some entries) (Some pixels) (Some slots) (Some undos) (Some view) (Some second) p q r s t u v w = record {
+  some_side = p.0;
+  small_side = p.1;
+  some_workers = q.0;
+  few_workers = q.1;
+  some_entries = r.0;
+  few_entries = r.1;
+  few_pixels = s.1;
+  some_slots = t.0;
+  few_slots = t.1;
+  some_undo = u.0;
+  small_undo = u.1;
+  view = v;
+  second = w;
+}
 
 settings_keys_within : (d : Data) → IfSome (settings_at_keys d) IsSettings
 unfolding settings_at_keys
 settings_keys_within d =
     settings_of (or_absent None cfa_form (get (codes "cfa") d)) (or_absent Eight depth_form (get (codes "depth") d))
     (natural_or (codes "preview_side") 720 64 720 d) (natural_or (codes "workers") 2 1 4 d) (natural_or (codes "stage_entries") 16 1 64 d)
-    (natural_or (codes "stage_pixels") 8388608 0 33554432 d) (natural_or (codes "mip_slots") 4 1 4 d) (or_absent start_view view_form (get (codes "view") d))
+    (natural_or (codes "stage_pixels") 8388608 0 33554432 d) (natural_or (codes "mip_slots") 4 1 4 d) (natural_or (codes "undo_depth") 32 1 64 d) (or_absent start_view view_form (get (codes "view") d))
+    (or_absent None (null_or view_form) (get (codes "second") d))
     (natural_or_between (codes "preview_side") 720 64 720 d (omega arith, omega arith))
     (natural_or_between (codes "workers") 2 1 4 d (omega arith, omega arith))
     (natural_or_between (codes "stage_entries") 16 1 64 d (omega arith, omega arith))
     (natural_or_between (codes "stage_pixels") 8388608 0 33554432 d (omega arith, omega arith))
     (natural_or_between (codes "mip_slots") 4 1 4 d (omega arith, omega arith))
+    (natural_or_between (codes "undo_depth") 32 1 64 d (omega arith, omega arith))
     (or_absent_within IsView start_view view_form (get (codes "view") d) start_within view_within)
+    (or_absent_within (λ w. IfSome w IsView) None (null_or view_form) (get (codes "second") d) tt (λ v. null_case (is_some (as_null v)) (view_form v) (view_within v)))
 
 pub settings_within : (d : Data) → IfSome (settings_in d) IsSettings
 settings_within d =

@@ -109,19 +109,19 @@ none_both : (a b : Option ScriptFault) → option_or a b ≡ None → (a ≡ Non
 none_both None b e = (refl, e)
 none_both (Some f) b e = cc
 
-step_chain : (r : Recipe) (s : Step) (a : Result (Result Step ParamFault) ScriptFault) → a ≡ Ok (Ok s) → next_fault r.opening r.steps s ≡ None
-    → a >>= (λ formed. or_param (length r.steps + 1) formed >>= λ step. unless (next_fault r.opening r.steps step) (with_step r step)) ≡ Ok (with_step r s)
+step_chain : (r : Recipe) (s : Step) (a : Result (Result Step ParamFault) ScriptFault) → a ≡ Ok (Ok s) → next_fault r.settings r.opening r.steps s ≡ None
+    → a >>= (λ formed. or_param (length r.steps + 1) formed >>= λ step. unless (next_fault r.settings r.opening r.steps step) (with_step r step)) ≡ Ok (with_step r s)
 step_chain r s a e f = rw (e, f) refl
 
-step_behind_back : (r : Recipe) (s : Step) → IsStepWithin s → IsStepTyped s → next_fault r.opening r.steps s ≡ None → step_behind r (step_data s) ≡ Ok (with_step r s)
+step_behind_back : (r : Recipe) (s : Step) → IsStepWithin s → IsStepTyped s → next_fault r.settings r.opening r.steps s ≡ None → step_behind r (step_data s) ≡ Ok (with_step r s)
 unfolding step_behind
 step_behind_back r s h t e = step_chain r s (or_form (length r.steps + 1) (step_form (step_data s))) (ap (or_form (length r.steps + 1)) (step_back s h t)) e
 
-steps_back : (settings : Settings) (opening : Stack) (before steps : List Step) → All IsStepWithin steps → All IsStepTyped steps → steps_fault opening before steps ≡ None
+steps_back : (settings : Settings) (opening : Stack) (before steps : List Step) → All IsStepWithin steps → All IsStepTyped steps → steps_fault settings opening before steps ≡ None
     → steps_behind (recipe settings opening before) (items_of (map step_data steps)) ≡ Ok (recipe settings opening (before ++ steps))
 steps_back settings opening before [] h t e = ap (λ ss. Ok (recipe settings opening ss)) (sym (append-nil before))
 steps_back settings opening before (s ∷ ss) h t e =
-    let both = none_both (next_fault opening before s) (steps_fault opening (before ++ s ∷ []) ss) e in
+    let both = none_both (next_fault settings opening before s) (steps_fault settings opening (before ++ s ∷ []) ss) e in
     let one = step_behind_back (recipe settings opening before) s (all_head IsStepWithin s ss h) (all_head IsStepTyped s ss t) both.0 in
     let rest = steps_back settings opening (before ++ s ∷ []) ss (all_tail IsStepWithin s ss h) (all_tail IsStepTyped s ss t) both.1 in
     ap (λ r. r >>= λ next. steps_behind next (items_of (map step_data ss))) one ∙ rest ∙ ap (λ ss. Ok (recipe settings opening ss)) (append_assoc before (s ∷ []) ss)

@@ -31,7 +31,7 @@ use Rattle.edit_steps.specs.Ranges.{IsBox, IsThumbnailBox, IsStepWithin}
 use Rattle.edit_script.specs.Binds.{result_and_then}
 use Rattle.edit_script.specs.Parts.{depth_form, sides_form, view_keys, view_at_keys}
 use Rattle.edit_script.specs.Item.{formed, module_at, item_keys, blend_at, item_of, params_at, blend_in, item_at_keys}
-use Rattle.edit_script.specs.Step.{if_step, select_form, compress_form, settle_form, instance_at, place_at, add_form, move_form, delete_form, view_step_form, export_form, thumbnail_form, plain_form, set_of, set_form, step_named, step_form}
+use Rattle.edit_script.specs.Step.{if_step, select_form, compress_form, undo_form, redo_form, settle_form, instance_at, place_at, add_form, move_form, delete_form, view_step_form, second_step_form, export_form, thumbnail_form, plain_form, set_of, set_form, step_named, step_form}
 use Rattle.edit_script.proofs.RangeLemmas.{bound, only_some, mapped, Between, natural_at_between, or_absent_within, view_keys_within, AreSides, sides_within}
 
 -- ---- values
@@ -171,6 +171,9 @@ delete_within d = plain_one (codes "module" ∷ codes "instance" ∷ []) d _ (de
 view_within : (d : Data) → IfSome (view_step_form d) IsStepWithin
 view_within d = plain_one view_keys d (option_map steps.View (view_at_keys d)) (mapped IsStepWithin steps.View (view_at_keys d) (view_keys_within d))
 
+second_within : (d : Data) → IfSome (second_step_form d) IsStepWithin
+second_within d = plain_one view_keys d (option_map steps.Second (view_at_keys d)) (mapped IsStepWithin steps.Second (view_at_keys d) (view_keys_within d))
+
 box_within : (b : BoxSize) → AreSides 16384 b → IsBox b
 box_within b h = record { wide = h.wide.0; not_too_wide = h.wide.1; high = h.high.0; not_too_high = h.high.1 }
 
@@ -219,13 +222,16 @@ plain_within : (word : List ℕ) (d : Data) → IfSome (plain_form word d) IsSte
 plain_within word d =
     either IsStepWithin (bytes_eq word (codes "select")) (select_form d) _ (select_within d)
     (either IsStepWithin (bytes_eq word (codes "compress")) (compress_form d) _ (plain_one [] d (Some (steps.Edit edits.Compress)) tt)
+    (either IsStepWithin (bytes_eq word (codes "undo")) (undo_form d) _ (plain_one [] d (Some steps.Undo) tt)
+    (either IsStepWithin (bytes_eq word (codes "redo")) (redo_form d) _ (plain_one [] d (Some steps.Redo) tt)
     (either IsStepWithin (bytes_eq word (codes "settle")) (settle_form d) _ (plain_one [] d (Some steps.Settle) tt)
     (either IsStepWithin (bytes_eq word (codes "add")) (add_form d) _ (add_within d)
     (either IsStepWithin (bytes_eq word (codes "move")) (move_form d) _ (move_within d)
     (either IsStepWithin (bytes_eq word (codes "delete")) (delete_form d) _ (delete_within d)
     (either IsStepWithin (bytes_eq word (codes "view")) (view_step_form d) _ (view_within d)
+    (either IsStepWithin (bytes_eq word (codes "second")) (second_step_form d) _ (second_within d)
     (either IsStepWithin (bytes_eq word (codes "export")) (export_form d) _ (export_within d)
-    (either IsStepWithin (bytes_eq word (codes "thumbnail")) (thumbnail_form d) None (thumbnail_within d) tt))))))))
+    (either IsStepWithin (bytes_eq word (codes "thumbnail")) (thumbnail_form d) None (thumbnail_within d) tt)))))))))))
 
 -- the step, where no number is outside its range, is within
 abbrev pub IsWithinOnOk : Result Step ParamFault → Type 0

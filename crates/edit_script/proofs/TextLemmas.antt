@@ -34,7 +34,7 @@ use Rattle.edit_steps.specs.declared.step.Step.TheVariants as steps
 use Rattle.edit_steps.specs.Ranges.{IsView, IsBox, IsThumbnailBox, IsSettings, IsOpening, IsEditWithin, IsStepWithin}
 use Rattle.edit_steps.specs.Script.{Recipe, IsScript}
 use Rattle.edit_steps.proofs.FaultLemmas.{steps-few}
-use Rattle.edit_script.specs.Written.{cfa_data, depth_data, box_data, box_or_null, view_data, settings_data, module_word, item_data, module_numbered, slot_data, history_data, set_data, select_data, word_data, placed_data, delete_data, edit_data, view_step_data, export_data, thumbnail_data, step_data, script_data}
+use Rattle.edit_script.specs.Written.{cfa_data, depth_data, box_data, box_or_null, view_data, view_or_null, settings_data, module_word, item_data, module_numbered, slot_data, history_data, set_data, select_data, word_data, placed_data, delete_data, edit_data, view_step_data, export_data, thumbnail_data, step_data, script_data}
 use Rattle.edit_script.specs.Typed.{IsItemTyped, IsHistoryTyped, IsEditTyped, IsStepTyped, IsTyped}
 use Rattle.edit_script.specs.Script.{script_of}
 use Rattle.edit_script.proofs.TypedLemmas.{blend_within_at}
@@ -105,22 +105,26 @@ box_or_null_small : (o : Option BoxSize) → IfSome o IsBox → IsSmall 20 1 (bo
 box_or_null_small None h = record { short = lit≤ tt; exact = refl; shallow = lit≤ tt }
 box_or_null_small (Some b) h = box_small b h.not_too_wide h.not_too_high
 
-settings_text : (a b c e f g h i : Data) → IsSmall 8 0 a → IsSmall 8 0 b → IsSmall 8 0 c → IsSmall 8 0 e → IsSmall 8 0 f → IsSmall 8 0 g → IsSmall 100 1 h → IsSmall 8 0 i
-    → IsSmall 300 2 (object (member (codes "cfa") a (member (codes "depth") b (member (codes "mip_slots") c (member (codes "preview_side") e (member (codes "stage_entries") f
-    (member (codes "stage_pixels") g (member (codes "view") h (member (codes "workers") i no_members)))))))))
+second_small : (o : Option View) → IfSome o IsView → IsSmall 100 1 (view_or_null o)
+second_small None h = record { short = lit≤ tt; exact = refl; shallow = lit≤ tt }
+second_small (Some v) h = view_small v h
+
+settings_text : (a b c e f g h i j k : Data) → IsSmall 8 0 a → IsSmall 8 0 b → IsSmall 8 0 c → IsSmall 8 0 e → IsSmall 100 1 f → IsSmall 8 0 g → IsSmall 8 0 h → IsSmall 8 0 i → IsSmall 100 1 j → IsSmall 8 0 k
+    → IsSmall 450 2 (object (member (codes "cfa") a (member (codes "depth") b (member (codes "mip_slots") c (member (codes "preview_side") e (member (codes "second") f (member (codes "stage_entries") g
+    (member (codes "stage_pixels") h (member (codes "undo_depth") i (member (codes "view") j (member (codes "workers") k no_members)))))))))))
 unfolding serde_json_on_literals
-settings_text a b c e f g h i p q r s t u v w = record {
-  short = simp length-append (omega (arith, p.short, q.short, r.short, s.short, t.short, u.short, v.short, w.short));
-  exact = rw (p.exact, q.exact, r.exact, s.exact, t.exact, u.exact, v.exact, w.exact) refl;
-  shallow = omega (arith, p.shallow, q.shallow, r.shallow, s.shallow, t.shallow, u.shallow, v.shallow, w.shallow);
+settings_text a b c e f g h i j k p q r s t u v w x y = record {
+  short = simp length-append (omega (arith, p.short, q.short, r.short, s.short, t.short, u.short, v.short, w.short, x.short, y.short));
+  exact = rw (p.exact, q.exact, r.exact, s.exact, t.exact, u.exact, v.exact, w.exact, x.exact, y.exact) refl;
+  shallow = omega (arith, p.shallow, q.shallow, r.shallow, s.shallow, t.shallow, u.shallow, v.shallow, w.shallow, x.shallow, y.shallow);
 }
 
-settings_small : (s : Settings) → IsSettings s → IsSmall 300 2 (settings_data s)
+settings_small : (s : Settings) → IsSettings s → IsSmall 450 2 (settings_data s)
 unfolding settings_data
 settings_small s h =
-    settings_text (cfa_data s.cfa) (depth_data s.depth) (natural_data s.mip_slots) (natural_data s.preview_side) (natural_data s.stage_entries) (natural_data s.stage_pixels) (view_data s.view) (natural_data s.workers)
-    (cfa_small s.cfa) (depth_small s.depth) (natural_small s.mip_slots (omega (arith, h.few_slots))) (natural_small s.preview_side (omega (arith, h.small_side)))
-    (natural_small s.stage_entries (omega (arith, h.few_entries))) (natural_small s.stage_pixels (omega (arith, h.few_pixels))) (view_small s.view h.view) (natural_small s.workers (omega (arith, h.few_workers)))
+    settings_text (cfa_data s.cfa) (depth_data s.depth) (natural_data s.mip_slots) (natural_data s.preview_side) (view_or_null s.second) (natural_data s.stage_entries) (natural_data s.stage_pixels) (natural_data s.undo_depth) (view_data s.view) (natural_data s.workers)
+    (cfa_small s.cfa) (depth_small s.depth) (natural_small s.mip_slots (omega (arith, h.few_slots))) (natural_small s.preview_side (omega (arith, h.small_side))) (second_small s.second h.second)
+    (natural_small s.stage_entries (omega (arith, h.few_entries))) (natural_small s.stage_pixels (omega (arith, h.few_pixels))) (natural_small s.undo_depth (omega (arith, h.small_undo))) (view_small s.view h.view) (natural_small s.workers (omega (arith, h.few_workers)))
 
 -- ---- items
 
@@ -178,6 +182,14 @@ compress_small : IsSmall 800 4 (word_data (codes "compress"))
 unfolding serde_json_on_literals word_data
 compress_small = record { short = lit≤ tt; exact = refl; shallow = lit≤ tt }
 
+undo_small : IsSmall 800 4 (word_data (codes "undo"))
+unfolding serde_json_on_literals word_data
+undo_small = record { short = lit≤ tt; exact = refl; shallow = lit≤ tt }
+
+redo_small : IsSmall 800 4 (word_data (codes "redo"))
+unfolding serde_json_on_literals word_data
+redo_small = record { short = lit≤ tt; exact = refl; shallow = lit≤ tt }
+
 settle_small : IsSmall 800 4 (word_data (codes "settle"))
 unfolding serde_json_on_literals word_data
 settle_small = record { short = lit≤ tt; exact = refl; shallow = lit≤ tt }
@@ -220,15 +232,29 @@ edit_small (edits.Add m instance place) h t = placed_small (codes "add") m insta
 edit_small (edits.Delete m instance) h t = delete_small m instance t
 edit_small (edits.Move m instance place) h t = placed_small (codes "move") m instance place move_word t h
 
-view_step_small : (v : View) → IsView v → IsSmall 800 4 (view_step_data v)
-unfolding serde_json_on_literals view_step_data
-view_step_small v h =
-    let a = natural_short v.factor (omega (arith, h.small_factor)) in
-    let b = natural_short v.cx (omega (arith, h.across)) in
-    let c = natural_short v.cy (omega (arith, h.down)) in
-    let e = natural_short v.w (omega (arith, h.not_too_wide)) in
-    let f = natural_short v.h (omega (arith, h.not_too_high)) in
-    record { short = simp length-append (omega arith); exact = refl; shallow = lit≤ tt }
+view_word : IsSmall 14 0 (string (codes "view"))
+unfolding serde_json_on_literals
+view_word = record { short = lit≤ tt; exact = refl; shallow = lit≤ tt }
+
+second_word : IsSmall 14 0 (string (codes "second"))
+unfolding serde_json_on_literals
+second_word = record { short = lit≤ tt; exact = refl; shallow = lit≤ tt }
+
+view_step_text : (name a b c e f : Data) → IsSmall 14 0 name → IsSmall 8 0 a → IsSmall 8 0 b → IsSmall 8 0 c → IsSmall 8 0 e → IsSmall 8 0 f
+    → IsSmall 800 4 (object (member (codes "cx") a (member (codes "cy") b (member (codes "do") name (member (codes "factor") c (member (codes "h") e (member (codes "w") f no_members)))))))
+unfolding serde_json_on_literals
+view_step_text name a b c e f o p q r s t = record {
+  short = simp length-append (omega (arith, o.short, p.short, q.short, r.short, s.short, t.short));
+  exact = rw (o.exact, p.exact, q.exact, r.exact, s.exact, t.exact) refl;
+  shallow = omega (arith, o.shallow, p.shallow, q.shallow, r.shallow, s.shallow, t.shallow);
+}
+
+view_step_small : (name : List ℕ) (v : View) → IsSmall 14 0 (string name) → IsView v → IsSmall 800 4 (view_step_data name v)
+unfolding view_step_data
+view_step_small name v o h =
+    view_step_text (string name) (natural_data v.cx) (natural_data v.cy) (natural_data v.factor) (natural_data v.h) (natural_data v.w) o
+    (natural_small v.cx (omega (arith, h.across))) (natural_small v.cy (omega (arith, h.down))) (natural_small v.factor (omega (arith, h.small_factor)))
+    (natural_small v.h (omega (arith, h.not_too_high))) (natural_small v.w (omega (arith, h.not_too_wide)))
 
 export_text : (a b : Data) → IsSmall 20 1 a → IsSmall 8 0 b → IsSmall 800 4 (object (member (codes "box") a (member (codes "depth") b (member (codes "do") (string (codes "export")) no_members))))
 unfolding serde_json_on_literals
@@ -248,7 +274,10 @@ thumbnail_small b h = thumbnail_text (box_data b) (box_small b (omega (arith, h.
 
 step_small : (s : Step) → IsStepWithin s → IsStepTyped s → IsSmall 800 4 (step_data s)
 step_small (steps.Edit edit) h t = edit_small edit h t
-step_small (steps.View view) h t = view_step_small view h
+step_small steps.Undo h t = undo_small
+step_small steps.Redo h t = redo_small
+step_small (steps.View view) h t = view_step_small (codes "view") view view_word h
+step_small (steps.Second view) h t = view_step_small (codes "second") view second_word h
 step_small (steps.Export size depth) h t = export_small size depth h
 step_small (steps.Thumbnail size) h t = thumbnail_small size h
 step_small steps.Settle h t = settle_small
@@ -289,7 +318,7 @@ history_small h o t =
     (list_small IsItemTyped item_data item_small false h.items t.items)
     (list_small (λ s. s.instance ≤ 255) slot_data slot_small false h.order t.order.instances)
 
-script_text : (history settings : Data) (steps : Items) (n : ℕ) → n ≤ 536 → IsSmall 257000 6 history → IsSmall 300 2 settings → AreSmall false n steps
+script_text : (history settings : Data) (steps : Items) (n : ℕ) → n ≤ 536 → IsSmall 257000 6 history → IsSmall 450 2 settings → AreSmall false n steps
     → IsSmall 700000 7 (object (member (codes "history") history (member (codes "settings") settings (member (codes "steps") (array steps) no_members))))
 unfolding serde_json_on_literals
 script_text history settings steps n few p q r = record {
@@ -305,7 +334,7 @@ both_small s h = step_small s h.0 h.1
 pub script_small : (r : Recipe) → IsScript r → IsTyped r → IsSmall 700000 7 (script_data r)
 unfolding script_data
 script_small r h t =
-    script_text (history_data r.opening) (settings_data r.settings) (items_of (map step_data r.steps)) (length r.steps) (steps-few r.opening r.steps h.allowed)
+    script_text (history_data r.opening) (settings_data r.settings) (items_of (map step_data r.steps)) (length r.steps) (steps-few r.settings r.opening r.steps h.allowed)
     (history_small r.opening h.opening t.opening) (settings_small r.settings h.settings)
     (list_small (λ s. IsStepWithin s × IsStepTyped s) step_data both_small false r.steps (λ k d less. (h.within k d less, t.steps k d less)))
 

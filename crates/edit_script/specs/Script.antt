@@ -81,7 +81,7 @@ unfoldable pub step_behind : Recipe → Data → Result Recipe ScriptFault
 step_behind r d = do
   formed ← or_form (length r.steps + 1) (step_form d)
   step ← or_param (length r.steps + 1) formed
-  unless (next_fault r.opening r.steps step) (with_step r step)
+  unless (next_fault r.settings r.opening r.steps step) (with_step r step)
 
 abbrev pub steps_behind : Recipe → Items → Result Recipe ScriptFault
 steps_behind r no_items = Ok r

@@ -28,6 +28,12 @@ select_form d = if_step (codes "end" ∷ []) d (do
 abbrev pub compress_form : Data → Option Step
 compress_form d = if_step [] d (Some (steps.Edit edits.Compress))
 
+abbrev pub undo_form : Data → Option Step
+undo_form d = if_step [] d (Some steps.Undo)
+
+abbrev pub redo_form : Data → Option Step
+redo_form d = if_step [] d (Some steps.Redo)
+
 abbrev pub settle_form : Data → Option Step
 settle_form d = if_step [] d (Some steps.Settle)
 
@@ -60,6 +66,9 @@ delete_form d = if_step (codes "module" ∷ codes "instance" ∷ []) d (do
 abbrev pub view_step_form : Data → Option Step
 view_step_form d = if_step view_keys d (option_map steps.View (view_at_keys d))
 
+abbrev pub second_step_form : Data → Option Step
+second_step_form d = if_step view_keys d (option_map steps.Second (view_at_keys d))
+
 unfoldable pub export_form : Data → Option Step
 export_form d = if_step (codes "box" ∷ codes "depth" ∷ []) d (do
   size ← or_absent None (null_or (sides_form 16384)) (get (codes "box") d)
@@ -76,14 +85,17 @@ abbrev pub plain_form : List ℕ → Data → Option Step
 plain_form word d =
     if bytes_eq word (codes "select") then select_form d
     else (if bytes_eq word (codes "compress") then compress_form d
+    else (if bytes_eq word (codes "undo") then undo_form d
+    else (if bytes_eq word (codes "redo") then redo_form d
     else (if bytes_eq word (codes "settle") then settle_form d
     else (if bytes_eq word (codes "add") then add_form d
     else (if bytes_eq word (codes "move") then move_form d
     else (if bytes_eq word (codes "delete") then delete_form d
     else (if bytes_eq word (codes "view") then view_step_form d
+    else (if bytes_eq word (codes "second") then second_step_form d
     else (if bytes_eq word (codes "export") then export_form d
     else (if bytes_eq word (codes "thumbnail") then thumbnail_form d
-    else None))))))))
+    else None)))))))))))
 
 -- ---- all steps
 

@@ -48,12 +48,18 @@ view_data v = object (
     member (codes "cx") (natural_data v.cx) (member (codes "cy") (natural_data v.cy) (member (codes "factor") (natural_data v.factor)
     (member (codes "h") (natural_data v.h) (member (codes "w") (natural_data v.w) no_members)))))
 
+-- the second window's view, or null for none
+abbrev pub view_or_null : Option View → Data
+view_or_null None = null
+view_or_null (Some v) = view_data v
+
 unfoldable pub settings_data : Settings → Data
 settings_data s = object (
     member (codes "cfa") (cfa_data s.cfa) (member (codes "depth") (depth_data s.depth) (member (codes "mip_slots") (natural_data s.mip_slots)
-    (member (codes "preview_side") (natural_data s.preview_side) (member (codes "stage_entries") (natural_data s.stage_entries)
-    (member (codes "stage_pixels") (natural_data s.stage_pixels) (member (codes "view") (view_data s.view)
-    (member (codes "workers") (natural_data s.workers) no_members))))))))
+    (member (codes "preview_side") (natural_data s.preview_side) (member (codes "second") (view_or_null s.second)
+    (member (codes "stage_entries") (natural_data s.stage_entries) (member (codes "stage_pixels") (natural_data s.stage_pixels)
+    (member (codes "undo_depth") (natural_data s.undo_depth) (member (codes "view") (view_data s.view)
+    (member (codes "workers") (natural_data s.workers) no_members))))))))))
 
 -- ---- the opening history
 
@@ -110,9 +116,10 @@ edit_data (edits.Add m instance place) = placed_data (codes "add") m instance pl
 edit_data (edits.Delete m instance) = delete_data m instance
 edit_data (edits.Move m instance place) = placed_data (codes "move") m instance place
 
-unfoldable pub view_step_data : View → Data
-view_step_data v = object (
-    member (codes "cx") (natural_data v.cx) (member (codes "cy") (natural_data v.cy) (member (codes "do") (string (codes "view"))
+-- a step that changes what a window shows
+unfoldable pub view_step_data : List ℕ → View → Data
+view_step_data name v = object (
+    member (codes "cx") (natural_data v.cx) (member (codes "cy") (natural_data v.cy) (member (codes "do") (string name)
     (member (codes "factor") (natural_data v.factor) (member (codes "h") (natural_data v.h) (member (codes "w") (natural_data v.w) no_members))))))
 
 unfoldable pub export_data : Option BoxSize → Depth → Data
@@ -124,7 +131,10 @@ thumbnail_data size = object (member (codes "box") (box_data size) (member (code
 
 abbrev pub step_data : Step → Data
 step_data (steps.Edit edit) = edit_data edit
-step_data (steps.View view) = view_step_data view
+step_data steps.Undo = word_data (codes "undo")
+step_data steps.Redo = word_data (codes "redo")
+step_data (steps.View view) = view_step_data (codes "view") view
+step_data (steps.Second view) = view_step_data (codes "second") view
 step_data (steps.Export size depth) = export_data size depth
 step_data (steps.Thumbnail size) = thumbnail_data size
 step_data steps.Settle = word_data (codes "settle")

@@ -7,7 +7,7 @@
 //!
 //! | Object | Keys |
 //! |---|---|
-//! | `settings` | `cfa` "RGGB", "BGGR", "GRBG", "GBRG" or null (null); `depth` 8 or 16 (8); `preview_side` 64 to 720 (720); `workers` 1 to 4 (2); `stage_entries` 1 to 64 (16); `stage_pixels` 0 to 33,554,432 (8,388,608); `mip_slots` 1 to 4 (4); `view` (factor 1, the middle, 720 by 480) |
+//! | `settings` | `cfa` "RGGB", "BGGR", "GRBG", "GBRG" or null (null); `depth` 8 or 16 (8); `preview_side` 64 to 720 (720); `workers` 1 to 4 (2); `stage_entries` 1 to 64 (16); `stage_pixels` 0 to 33,554,432 (8,388,608); `mip_slots` 1 to 4 (4); `undo_depth` 1 to 64 (32); `view` (factor 1, the middle, 720 by 480); `second`, a view or null (null) |
 //! | `history` (the start history) | `items`, a list; `end` 0 to 65,535; `order`, a list of pairs of a module's name and an instance |
 //! | an item | `module`, by its name; `instance` 0 to 255 (0); `enabled` (true); `params`; `blend`, or null (null) |
 //! | a view | `factor` 1 to 64; `cx`, `cy` 0 to 65,536; `w`, `h` 1 to 16,384, with a product of at most 786,432 |
@@ -16,10 +16,10 @@
 //! |---|---|
 //! | "set" | those of an item |
 //! | "select" | `end` 0 to 65,535 |
-//! | "compress", "settle" | none |
+//! | "compress", "undo", "redo", "settle" | none |
 //! | "add", "move" | `module`, `instance`, `place` 0 to 65,535 |
 //! | "delete" | `module`, `instance` |
-//! | "view" | those of a view |
+//! | "view", "second" | those of a view |
 //! | "export" | `box`, null or a list of two sides of 1 to 16,384 (null); `depth` 8 or 16 (8) |
 //! | "thumbnail" | `box`, a list of two sides of 1 to 720 |
 #![tactic(auto)]
@@ -36,8 +36,6 @@ mod reading;
 mod settings_form;
 mod step_data;
 mod step_form;
-#[cfg(test)]
-mod tests;
 mod writing;
 
 pub use edit_steps::{Reason, Script, ScriptEnd, ScriptFault, Settings, Step};

@@ -2,7 +2,7 @@
 ghost use Rattle.std.specs.Prelude.{◌≡◌, IfOk};
 ghost use Rattle.serde_json.specs.View.{view};
 ghost use Rattle.edit_script.specs.Parts.{name_of_cfa};
-ghost use Rattle.edit_script.specs.Written.{bits_of, cfa_data, box_data, box_or_null, view_data, settings_data};
+ghost use Rattle.edit_script.specs.Written.{bits_of, cfa_data, box_data, box_or_null, view_data, view_or_null, settings_data};
 
 use edit_steps::Settings;
 use px::{BoxSize, Cfa, Depth, View};
@@ -67,19 +67,31 @@ fn view_data(alloc: Global, shown: View) -> Result<Value, AllocError>
     })
 }
 
+fn view_or_null(alloc: Global, shown: Option<View>) -> Result<Value, AllocError>
+    ensures { IfOk result (λ v. view v ≡ view_or_null shown) }
+{
+    match shown {
+        None => Ok(Value::Null),
+        Some(shown) => view_data(alloc, shown),
+    }
+}
+
 #[tactic(auto, unfolding(crate::specs::Written::settings_data))]
 pub(crate) fn settings_data(alloc: Global, settings: &Settings) -> Result<Value, AllocError>
     ensures { IfOk result (λ v. view v ≡ settings_data settings.now) }
 {
     let cfa = cfa_data(alloc, settings.cfa)?;
     let shown = view_data(alloc, settings.view)?;
+    let second = view_or_null(alloc, settings.second)?;
     json!(in alloc; {
         "cfa": cfa,
         "depth": bits_of(settings.depth),
         "mip_slots": settings.mip_slots,
         "preview_side": settings.preview_side,
+        "second": second,
         "stage_entries": settings.stage_entries,
         "stage_pixels": settings.stage_pixels,
+        "undo_depth": settings.undo_depth,
         "view": shown,
         "workers": settings.workers
     })

@@ -5,7 +5,8 @@ ghost use Rattle.serde_json.specs.View.{view};
 ghost use Rattle.serde_json.specs.Find.{get};
 ghost use Rattle.params.specs.Form.{or_absent};
 ghost use Rattle.edit_script.specs.Parts.{depth_form as depth_in_form, cfa_form as cfa_in_form, view_form as view_in_form};
-ghost use Rattle.edit_script.specs.Settings.{start_view, settings_at_keys, settings_form, settings_in};
+ghost use Rattle.params.specs.Stated.{null_or};
+ghost use Rattle.edit_script.specs.Settings.{settings_at_keys, settings_form, settings_in};
 ghost use Rattle.edit_script.specs.Reads.{IsFormed};
 
 use crate::form_end::FormEnd;
@@ -15,14 +16,6 @@ use params::form::{has_only, natural_or};
 use px::{Cfa, Depth, View};
 use serde_json::{Value, json};
 use std::alloc::Global;
-
-const START_VIEW: View = View {
-    factor: 1,
-    cx: 32_768,
-    cy: 32_768,
-    w: 720,
-    h: 480,
-};
 
 fn cfa_or_none(value: &Value) -> Option<Option<Cfa>>
     ensures { result ≡ or_absent None cfa_in_form (get (codes "cfa") (view value.now)) }
@@ -43,12 +36,30 @@ pub(crate) fn depth_or_eight(value: &Value) -> Option<Depth>
     }
 }
 
-fn view_or_start(value: &Value) -> Option<View>
-    ensures { result ≡ or_absent start_view view_in_form (get (codes "view") (view value.now)) }
+fn view_or(value: &Value, absent: View) -> Option<View>
+    ensures { result ≡ or_absent absent view_in_form (get (codes "view") (view value.now)) }
 {
     match value.get("view") {
-        None => Some(START_VIEW),
+        None => Some(absent),
         Some(shown) => view_form(shown),
+    }
+}
+
+fn view_or_null(value: &Value) -> Option<Option<View>>
+    ensures { result ≡ null_or view_in_form (view value.now) }
+{
+    if value.is_null() {
+        return Some(None);
+    }
+    Some(Some(view_form(value)?))
+}
+
+fn second_or_none(value: &Value) -> Option<Option<View>>
+    ensures { result ≡ or_absent None (null_or view_in_form) (get (codes "second") (view value.now)) }
+{
+    match value.get("second") {
+        None => Some(None),
+        Some(shown) => view_or_null(shown),
     }
 }
 
@@ -56,14 +67,17 @@ fn view_or_start(value: &Value) -> Option<View>
 fn settings_at_keys(value: &Value) -> Option<Settings>
     ensures { result ≡ settings_at_keys (view value.now) }
 {
+    let start = Settings::start();
     let cfa = cfa_or_none(value)?;
     let depth = depth_or_eight(value)?;
-    let preview_side = natural_or(value, "preview_side", 720, 64, 720)?;
-    let workers = natural_or(value, "workers", 2, 1, 4)?;
-    let stage_entries = natural_or(value, "stage_entries", 16, 1, 64)?;
-    let stage_pixels = natural_or(value, "stage_pixels", 8_388_608, 0, 33_554_432)?;
-    let mip_slots = natural_or(value, "mip_slots", 4, 1, 4)?;
-    let view = view_or_start(value)?;
+    let preview_side = natural_or(value, "preview_side", start.preview_side, 64, 720)?;
+    let workers = natural_or(value, "workers", start.workers, 1, 4)?;
+    let stage_entries = natural_or(value, "stage_entries", start.stage_entries, 1, 64)?;
+    let stage_pixels = natural_or(value, "stage_pixels", start.stage_pixels, 0, 33_554_432)?;
+    let mip_slots = natural_or(value, "mip_slots", start.mip_slots, 1, 4)?;
+    let undo_depth = natural_or(value, "undo_depth", start.undo_depth, 1, 64)?;
+    let view = view_or(value, start.view)?;
+    let second = second_or_none(value)?;
     Some(Settings {
         cfa,
         depth,
@@ -72,7 +86,9 @@ fn settings_at_keys(value: &Value) -> Option<Settings>
         stage_entries,
         stage_pixels,
         mip_slots,
+        undo_depth,
         view,
+        second,
     })
 }
 
@@ -87,7 +103,9 @@ fn settings_form(value: &Value) -> Option<Settings>
         "stage_entries",
         "stage_pixels",
         "mip_slots",
+        "undo_depth",
         "view",
+        "second",
     ];
     if !has_only(value, &keys) {
         return None;

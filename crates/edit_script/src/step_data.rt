@@ -99,13 +99,13 @@ fn edit_data(alloc: Global, edit: &Edit) -> Result<Value, AllocError>
 }
 
 #[tactic(auto, unfolding(crate::specs::Written::view_step_data))]
-fn view_step_data(alloc: Global, shown: View) -> Result<Value, AllocError>
-    ensures { IfOk result (λ v. view v ≡ view_step_data shown) }
+fn view_step_data(alloc: Global, word: &str, shown: View) -> Result<Value, AllocError>
+    ensures { IfOk result (λ v. view v ≡ view_step_data word.now shown) }
 {
     json!(in alloc; {
         "cx": shown.cx,
         "cy": shown.cy,
-        "do": "view",
+        "do": word,
         "factor": shown.factor,
         "h": shown.h,
         "w": shown.w
@@ -135,7 +135,10 @@ fn step_data(alloc: Global, step: &Step) -> Result<Value, AllocError>
 {
     match step {
         Step::Edit(edit) => edit_data(alloc, edit),
-        Step::View(shown) => view_step_data(alloc, *shown),
+        Step::Undo => word_data(alloc, "undo"),
+        Step::Redo => word_data(alloc, "redo"),
+        Step::View(shown) => view_step_data(alloc, "view", *shown),
+        Step::Second(shown) => view_step_data(alloc, "second", *shown),
         Step::Export { size, depth } => export_data(alloc, *size, *depth),
         Step::Thumbnail { size } => thumbnail_data(alloc, *size),
         Step::Settle => word_data(alloc, "settle"),

@@ -5,7 +5,7 @@ ghost use Rattle.serde_json.specs.Find.{get};
 ghost use Rattle.params.specs.Form.{or_absent};
 ghost use Rattle.params.specs.Stated.{null_or};
 ghost use Rattle.edit_script.specs.Parts.{sides_form as sides_in_form};
-ghost use Rattle.edit_script.specs.Step.{select_form, compress_form, settle_form, instance_at, place_at, add_form, move_form, delete_form, view_step_form, export_form, thumbnail_form, plain_form, set_of, set_form, step_named, step_form};
+ghost use Rattle.edit_script.specs.Step.{select_form, compress_form, undo_form, redo_form, settle_form, instance_at, place_at, add_form, move_form, delete_form, view_step_form, second_step_form, export_form, thumbnail_form, plain_form, set_of, set_form, step_named, step_form};
 ghost use Rattle.edit_script.specs.Reads.{IsFormed};
 
 use crate::form_end::FormEnd;
@@ -44,6 +44,24 @@ fn compress_form(value: &Value) -> Option<Step>
         return None;
     }
     Some(Step::Edit(Edit::Compress))
+}
+
+fn undo_form(value: &Value) -> Option<Step>
+    ensures { result ≡ undo_form (view value.now) }
+{
+    if !has_only(value, &["do"]) {
+        return None;
+    }
+    Some(Step::Undo)
+}
+
+fn redo_form(value: &Value) -> Option<Step>
+    ensures { result ≡ redo_form (view value.now) }
+{
+    if !has_only(value, &["do"]) {
+        return None;
+    }
+    Some(Step::Redo)
 }
 
 fn settle_form(value: &Value) -> Option<Step>
@@ -123,6 +141,15 @@ fn view_step_form(value: &Value) -> Option<Step>
     Some(Step::View(view_at_keys(value)?))
 }
 
+fn second_step_form(value: &Value) -> Option<Step>
+    ensures { result ≡ second_step_form (view value.now) }
+{
+    if !has_only(value, &["do", "factor", "cx", "cy", "w", "h"]) {
+        return None;
+    }
+    Some(Step::Second(view_at_keys(value)?))
+}
+
 fn sides_or_null(value: &Value) -> Option<Option<BoxSize>>
     ensures { result ≡ null_or (sides_in_form 16384) (view value.now) }
 {
@@ -171,11 +198,14 @@ fn plain_form(word: &str, value: &Value) -> Option<Step>
     match word {
         "select" => select_form(value),
         "compress" => compress_form(value),
+        "undo" => undo_form(value),
+        "redo" => redo_form(value),
         "settle" => settle_form(value),
         "add" => add_form(value),
         "move" => move_form(value),
         "delete" => delete_form(value),
         "view" => view_step_form(value),
+        "second" => second_step_form(value),
         "export" => export_form(value),
         "thumbnail" => thumbnail_form(value),
         _ => None,

@@ -1,48 +1,38 @@
 -- Lemmas on changes, and on what stands behind them.
-use Rattle.std.proofs.Common.{◌≡◌, ℕ, zero, suc, ◌-◌, ◌<◌, ◌≤◌, Bool, true, false, cond, ◌||◌, List, [], ◌∷◌, ◌++◌, length, get_or, take, drop, refl, sym, ap, ◌∙◌, arith}
-use Rattle.std.specs.Prelude.{slice_range, nat_lt}
+use Rattle.std.proofs.Common.{◌≡◌, ℕ, zero, suc, ◌-◌, ◌≤◌, Bool, true, false, ◌||◌, List, [], ◌∷◌, ◌++◌, take, drop, refl, sym, ap, ◌∙◌, cond, arith, Option, Some, None}
+use Rattle.std.specs.Prelude.{slice_range, is_some, IfSome}
 use Rattle.std.specs.List.{All, list_any}
 use Rattle.std.proofs.Math.Seq.{take-nil}
-use Rattle.std.proofs.lemmas.Bool.{false≢true, lt-ltb}
-use Rattle.std.proofs.lemmas.List.Elements.{filter-append, All-head, All-tail}
+use Rattle.std.proofs.lemmas.Bool.{false≢true}
+use Rattle.std.proofs.lemmas.List.Elements.{All-head, All-tail}
 use Rattle.px.specs.declared.view.View.{View}
-use Rattle.outside.specs.declared.job_name.Pipe.TheVariants as pipes
 use Rattle.history.specs.declared.edits.Edit.{Edit}
 use Rattle.history.specs.declared.edits.Edit.TheVariants as edits
 use Rattle.history.specs.declared.changes.Kind.TheVariants as kind
 use Rattle.history.specs.Stack.{Stack}
 use Rattle.history.specs.After.{after, kind_of, overwrites, live_items}
+use Rattle.undo_stack.specs.Undoing.{changed}
 use Rattle.edit_steps.specs.declared.step.Step.{Step}
 use Rattle.edit_steps.specs.declared.step.Step.TheVariants as steps
 use Rattle.edit_steps.specs.Ranges.{IsView, IsStepWithin}
-use Rattle.edit_steps.specs.Changes.{is_change, changes_of, history_behind, history_after, view_behind, view_after, change_kind, kinds_along, is_top, is_synch, is_remove, concerns}
-use Rattle.edit_steps.specs.Kept.{views_along}
-
-pub changes_of-push : (xs : List Step) (s : Step) → changes_of (xs ++ s ∷ []) ≡ changes_of xs ++ changes_of (s ∷ [])
-changes_of-push xs s = filter-append is_change xs (s ∷ [])
+use Rattle.edit_steps.specs.Changes.{is_change, Histories, histories_behind, histories_after, view_behind, view_after, other_view, second_behind, second_after, change_kind, kinds_along, is_top, is_synch, is_remove}
 
 -- ---- histories
 
-pub history_after-append : (h : Stack) (xs ys : List Step) → history_after h (xs ++ ys) ≡ history_after (history_after h xs) ys
-history_after-append h [] ys = refl
-history_after-append h (x ∷ xs) ys = history_after-append (history_behind h x) xs ys
+pub histories_after-append : (hs : Histories) (xs ys : List Step) → histories_after hs (xs ++ ys) ≡ histories_after (histories_after hs xs) ys
+histories_after-append hs [] ys = refl
+histories_after-append hs (x ∷ xs) ys = histories_after-append (histories_behind hs x) xs ys
 
--- a step that is no change leaves the history
-pub history_behind-same : (h : Stack) (s : Step) → is_change s ≡ false → history_behind h s ≡ h
-history_behind-same h (steps.Edit edit) e = cc
-history_behind-same h (steps.View view) e = refl
-history_behind-same h (steps.Export size depth) e = refl
-history_behind-same h (steps.Thumbnail size) e = refl
-history_behind-same h steps.Settle e = refl
-
--- the changes alone make the history
-pub history_after-changes : (h : Stack) (xs : List Step) → history_after h (changes_of xs) ≡ history_after h xs
-history_after-changes h [] = refl
-history_after-changes h (x ∷ xs) =
-    (elim (is_change x) as (λ b. is_change x ≡ b → history_after h (cond b (x ∷ changes_of xs) (changes_of xs)) ≡ history_after (history_behind h x) xs) [
-      | true ↦ λ _. history_after-changes (history_behind h x) xs
-      | false ↦ λ other. history_after-changes h xs ∙ ap (λ g. history_after g xs) (sym (history_behind-same h x other))
-    ]) refl
+-- a step that is no change leaves the histories
+pub histories_behind-same : (hs : Histories) (s : Step) → is_change s ≡ false → histories_behind hs s ≡ hs
+histories_behind-same hs (steps.Edit edit) e = cc
+histories_behind-same hs steps.Undo e = cc
+histories_behind-same hs steps.Redo e = cc
+histories_behind-same hs (steps.View view) e = refl
+histories_behind-same hs (steps.Second view) e = refl
+histories_behind-same hs (steps.Export size depth) e = refl
+histories_behind-same hs (steps.Thumbnail size) e = refl
+histories_behind-same hs steps.Settle e = refl
 
 -- ---- views
 
@@ -50,24 +40,36 @@ pub view_after-append : (v : View) (xs ys : List Step) → view_after v (xs ++ y
 view_after-append v [] ys = refl
 view_after-append v (x ∷ xs) ys = view_after-append (view_behind v x) xs ys
 
-view_behind-same : (v : View) (s : Step) → is_change s ≡ false → view_behind v s ≡ v
+pub second_after-append : (w : Option View) (xs ys : List Step) → second_after w (xs ++ ys) ≡ second_after (second_after w xs) ys
+second_after-append w [] ys = refl
+second_after-append w (x ∷ xs) ys = second_after-append (second_behind w x) xs ys
+
+pub view_behind-same : (v : View) (s : Step) → is_change s ≡ false → view_behind v s ≡ v
 view_behind-same v (steps.Edit edit) e = refl
+view_behind-same v steps.Undo e = refl
+view_behind-same v steps.Redo e = refl
 view_behind-same v (steps.View view) e = cc
+view_behind-same v (steps.Second view) e = refl
 view_behind-same v (steps.Export size depth) e = refl
 view_behind-same v (steps.Thumbnail size) e = refl
 view_behind-same v steps.Settle e = refl
 
-pub view_after-changes : (v : View) (xs : List Step) → view_after v (changes_of xs) ≡ view_after v xs
-view_after-changes v [] = refl
-view_after-changes v (x ∷ xs) =
-    (elim (is_change x) as (λ b. is_change x ≡ b → view_after v (cond b (x ∷ changes_of xs) (changes_of xs)) ≡ view_after (view_behind v x) xs) [
-      | true ↦ λ _. view_after-changes (view_behind v x) xs
-      | false ↦ λ other. view_after-changes v xs ∙ ap (λ w. view_after w xs) (sym (view_behind-same v x other))
-    ]) refl
+pub second_behind-same : (w : Option View) (s : Step) → is_change s ≡ false → second_behind w s ≡ w
+second_behind-same w (steps.Edit edit) e = refl
+second_behind-same w steps.Undo e = refl
+second_behind-same w steps.Redo e = refl
+second_behind-same w (steps.View view) e = refl
+second_behind-same w (steps.Second view) e = cc
+second_behind-same w (steps.Export size depth) e = refl
+second_behind-same w (steps.Thumbnail size) e = refl
+second_behind-same w steps.Settle e = refl
 
 view_behind-within : (v : View) (s : Step) → IsView v → IsStepWithin s → IsView (view_behind v s)
 view_behind-within v (steps.Edit edit) is within = is
+view_behind-within v steps.Undo is within = is
+view_behind-within v steps.Redo is within = is
 view_behind-within v (steps.View view) is within = within
+view_behind-within v (steps.Second view) is within = is
 view_behind-within v (steps.Export size depth) is within = is
 view_behind-within v (steps.Thumbnail size) is within = is
 view_behind-within v steps.Settle is within = is
@@ -78,46 +80,62 @@ view_after-within v [] is within = is
 view_after-within v (x ∷ xs) is within =
     view_after-within (view_behind v x) xs (view_behind-within v x is (All-head IsStepWithin x xs within)) (All-tail IsStepWithin x xs within)
 
-pub views_along-append : (v : View) (xs ys : List Step) → views_along v (xs ++ ys) ≡ views_along v xs ++ views_along (view_after v xs) ys
-views_along-append v [] ys = refl
-views_along-append v (x ∷ xs) ys = ap (λ vs. view_behind v x ∷ vs) (views_along-append (view_behind v x) xs ys)
+other_view-within : (w : Option View) (view : View) → IsView view → IfSome (other_view w view) IsView
+other_view-within None view within = tt
+other_view-within (Some v) view within = within
 
-pub length-views_along : (v : View) (xs : List Step) → length (views_along v xs) ≡ length xs
-length-views_along v [] = refl
-length-views_along v (x ∷ xs) = ap suc (length-views_along (view_behind v x) xs)
+second_behind-within : (w : Option View) (s : Step) → IfSome w IsView → IsStepWithin s → IfSome (second_behind w s) IsView
+second_behind-within w (steps.Edit edit) is within = is
+second_behind-within w steps.Undo is within = is
+second_behind-within w steps.Redo is within = is
+second_behind-within w (steps.View view) is within = is
+second_behind-within w (steps.Second view) is within = other_view-within w view within
+second_behind-within w (steps.Export size depth) is within = is
+second_behind-within w (steps.Thumbnail size) is within = is
+second_behind-within w steps.Settle is within = is
 
--- the view kept of a change is the one behind the changes up to it
-pub views_along-at : (v : View) (xs : List Step) (k : ℕ) (d : View) → k < length xs → get_or (views_along v xs) k d ≡ view_after v (take (suc k) xs)
-views_along-at v [] k d within = absurd (omega (arith, within))
-views_along-at v (x ∷ xs) zero d within = refl
-views_along-at v (x ∷ xs) (suc k) d within = views_along-at (view_behind v x) xs k d (omega (arith, within))
+pub second_after-within : (w : Option View) (xs : List Step) → IfSome w IsView → All IsStepWithin xs → IfSome (second_after w xs) IsView
+second_after-within w [] is within = is
+second_after-within w (x ∷ xs) is within =
+    second_after-within (second_behind w x) xs (second_behind-within w x is (All-head IsStepWithin x xs within)) (All-tail IsStepWithin x xs within)
+
+other_view-there : (w : Option View) (view : View) → is_some (other_view w view) ≡ is_some w
+other_view-there None view = refl
+other_view-there (Some v) view = refl
+
+second_behind-there : (w : Option View) (s : Step) → is_some (second_behind w s) ≡ is_some w
+second_behind-there w (steps.Edit edit) = refl
+second_behind-there w steps.Undo = refl
+second_behind-there w steps.Redo = refl
+second_behind-there w (steps.View view) = refl
+second_behind-there w (steps.Second view) = other_view-there w view
+second_behind-there w (steps.Export size depth) = refl
+second_behind-there w (steps.Thumbnail size) = refl
+second_behind-there w steps.Settle = refl
+
+-- no step opens or closes the second window
+pub second_after-there : (w : Option View) (xs : List Step) → is_some (second_after w xs) ≡ is_some w
+second_after-there w [] = refl
+second_after-there w (x ∷ xs) = second_after-there (second_behind w x) xs ∙ second_behind-there w x
 
 -- ---- kinds
 
-pub kinds_along-append : (h : Stack) (xs ys : List Step) → kinds_along h (xs ++ ys) ≡ kinds_along h xs ++ kinds_along (history_after h xs) ys
-kinds_along-append h [] ys = refl
-kinds_along-append h (x ∷ xs) ys = ap (λ ks. change_kind h x ∷ ks) (kinds_along-append (history_behind h x) xs ys)
+take-kinds_along : (hs : Histories) (xs : List Step) (n : ℕ) → take n (kinds_along hs xs) ≡ kinds_along hs (take n xs)
+take-kinds_along hs [] zero = refl
+take-kinds_along hs [] (suc n) = refl
+take-kinds_along hs (x ∷ xs) zero = refl
+take-kinds_along hs (x ∷ xs) (suc n) = ap (λ ks. change_kind hs x ∷ ks) (take-kinds_along (histories_behind hs x) xs n)
 
-pub length-kinds_along : (h : Stack) (xs : List Step) → length (kinds_along h xs) ≡ length xs
-length-kinds_along h [] = refl
-length-kinds_along h (x ∷ xs) = ap suc (length-kinds_along (history_behind h x) xs)
-
-take-kinds_along : (h : Stack) (xs : List Step) (n : ℕ) → take n (kinds_along h xs) ≡ kinds_along h (take n xs)
-take-kinds_along h [] zero = refl
-take-kinds_along h [] (suc n) = refl
-take-kinds_along h (x ∷ xs) zero = refl
-take-kinds_along h (x ∷ xs) (suc n) = ap (λ ks. change_kind h x ∷ ks) (take-kinds_along (history_behind h x) xs n)
-
-drop-kinds_along : (h : Stack) (xs : List Step) (n : ℕ) → drop n (kinds_along h xs) ≡ kinds_along (history_after h (take n xs)) (drop n xs)
-drop-kinds_along h [] zero = refl
-drop-kinds_along h [] (suc n) = refl
-drop-kinds_along h (x ∷ xs) zero = refl
-drop-kinds_along h (x ∷ xs) (suc n) = drop-kinds_along (history_behind h x) xs n
+drop-kinds_along : (hs : Histories) (xs : List Step) (n : ℕ) → drop n (kinds_along hs xs) ≡ kinds_along (histories_after hs (take n xs)) (drop n xs)
+drop-kinds_along hs [] zero = refl
+drop-kinds_along hs [] (suc n) = refl
+drop-kinds_along hs (x ∷ xs) zero = refl
+drop-kinds_along hs (x ∷ xs) (suc n) = drop-kinds_along (histories_behind hs x) xs n
 
 -- a part of the kinds is the kinds of that part
-pub range-kinds_along : (h : Stack) (xs : List Step) (from to : ℕ) → slice_range (kinds_along h xs) from to ≡ kinds_along (history_after h (take from xs)) (slice_range xs from to)
-range-kinds_along h xs from to =
-    ap (take (to - from)) (drop-kinds_along h xs from) ∙ take-kinds_along (history_after h (take from xs)) (drop from xs) (to - from)
+pub range-kinds_along : (hs : Histories) (xs : List Step) (from to : ℕ) → slice_range (kinds_along hs xs) from to ≡ kinds_along (histories_after hs (take from xs)) (slice_range xs from to)
+range-kinds_along hs xs from to =
+    ap (take (to - from)) (drop-kinds_along hs xs from) ∙ take-kinds_along (histories_after hs (take from xs)) (drop from xs) (to - from)
 
 -- an edit has a kind that tells of the history
 edit_tells : (h : Stack) (e : Edit) → (is_top (kind_of h e) || (is_synch (kind_of h e) || is_remove (kind_of h e))) ≡ true
@@ -144,18 +162,21 @@ none_of_three false true c some na nb nc = sym nb
 none_of_three false false true some na nb nc = sym nc
 none_of_three false false false some na nb nc = some
 
--- changes of which none is an edit leave the history
-pub history_after-same : (h : Stack) (xs : List Step) → list_any is_top (kinds_along h xs) ≡ false → list_any is_synch (kinds_along h xs) ≡ false → list_any is_remove (kinds_along h xs) ≡ false → history_after h xs ≡ h
-history_after-same h [] top synch remove = refl
-history_after-same h (steps.Edit e ∷ xs) top synch remove =
-    let k = kind_of h e in
-    let ks = kinds_along (after h e) xs in
-    absurd (false≢true (none_of_three (is_top k) (is_synch k) (is_remove k) (edit_tells h e)
+-- changes of which none is of the history leave it
+pub histories_after-same : (hs : Histories) (xs : List Step) → list_any is_top (kinds_along hs xs) ≡ false → list_any is_synch (kinds_along hs xs) ≡ false → list_any is_remove (kinds_along hs xs) ≡ false → histories_after hs xs ≡ hs
+histories_after-same hs [] top synch remove = refl
+histories_after-same hs (steps.Edit e ∷ xs) top synch remove =
+    let k = kind_of hs.present e in
+    let ks = kinds_along (changed hs (after hs.present e)) xs in
+    absurd (false≢true (none_of_three (is_top k) (is_synch k) (is_remove k) (edit_tells hs.present e)
     (or_first (is_top k) (list_any is_top ks) top) (or_first (is_synch k) (list_any is_synch ks) synch) (or_first (is_remove k) (list_any is_remove ks) remove)))
-history_after-same h (steps.View view ∷ xs) top synch remove = history_after-same h xs top synch remove
-history_after-same h (steps.Export size depth ∷ xs) top synch remove = history_after-same h xs top synch remove
-history_after-same h (steps.Thumbnail size ∷ xs) top synch remove = history_after-same h xs top synch remove
-history_after-same h (steps.Settle ∷ xs) top synch remove = history_after-same h xs top synch remove
+histories_after-same hs (steps.Undo ∷ xs) top synch remove = absurd (false≢true (sym remove))
+histories_after-same hs (steps.Redo ∷ xs) top synch remove = absurd (false≢true (sym remove))
+histories_after-same hs (steps.View view ∷ xs) top synch remove = histories_after-same hs xs top synch remove
+histories_after-same hs (steps.Second view ∷ xs) top synch remove = histories_after-same hs xs top synch remove
+histories_after-same hs (steps.Export size depth ∷ xs) top synch remove = histories_after-same hs xs top synch remove
+histories_after-same hs (steps.Thumbnail size ∷ xs) top synch remove = histories_after-same hs xs top synch remove
+histories_after-same hs (steps.Settle ∷ xs) top synch remove = histories_after-same hs xs top synch remove
 
 -- the front of a list up to a later place is the front up to an earlier one and what is between
 pub take_on : {X : Type 0} (xs : List X) (from to : ℕ) → from ≤ to → take to xs ≡ take from xs ++ slice_range xs from to
@@ -166,41 +187,3 @@ take_on (x ∷ xs) (suc from) zero rising = absurd (omega (arith, rising))
 take_on (x ∷ xs) (suc from) (suc to) rising =
     let e : to - from ≡ suc to - suc from = omega arith in
     ap (λ ys. x ∷ ys) (take_on xs from to (omega (arith, rising)) ∙ ap (λ n. take from xs ++ take n (drop from xs)) e)
-
--- ---- concerns
-
-or_true : (b : Bool) → (b || true) ≡ true
-or_true true = refl
-or_true false = refl
-
--- one of three that holds, among three pairs
-or_among : (t s r a b c : Bool) → (t || (s || r)) ≡ true → (((t || a) || (s || b)) || (r || c)) ≡ true
-or_among true s r a b c some = refl
-or_among false true r a b c some = ap (λ x. x || (r || c)) (or_true a)
-or_among false false true a b c some = or_true (a || b)
-or_among false false false a b c some = absurd (false≢true some)
-
--- a preview is concerned where a kind other than that of a view is there
-pub preview-kinds : (h : Stack) (xs : List Step) →
-    list_any (concerns pipes.Preview) xs ≡ ((list_any is_top (kinds_along h xs) || list_any is_synch (kinds_along h xs)) || list_any is_remove (kinds_along h xs))
-preview-kinds h [] = refl
-preview-kinds h (steps.Edit e ∷ xs) = sym (or_among (is_top (kind_of h e)) (is_synch (kind_of h e)) (is_remove (kind_of h e)) _ _ _ (edit_tells h e))
-preview-kinds h (steps.View view ∷ xs) = preview-kinds h xs
-preview-kinds h (steps.Export size depth ∷ xs) = preview-kinds h xs
-preview-kinds h (steps.Thumbnail size ∷ xs) = preview-kinds h xs
-preview-kinds h (steps.Settle ∷ xs) = preview-kinds h xs
-
-changes_concern : (s : Step) → is_change s ≡ true → concerns pipes.Full s ≡ true
-changes_concern (steps.Edit e) is = refl
-changes_concern (steps.View view) is = refl
-changes_concern (steps.Export size depth) is = cc
-changes_concern (steps.Thumbnail size) is = cc
-changes_concern steps.Settle is = cc
-
-has_some : (xs : List Step) → nat_lt 0 (suc (length xs)) ≡ true
-has_some xs = lt-ltb 0 (suc (length xs)) (omega arith)
-
--- each change concerns the full pipe
-pub full-any : (xs : List Step) → All (λ s. is_change s ≡ true) xs → list_any (concerns pipes.Full) xs ≡ nat_lt 0 (length xs)
-full-any [] all = refl
-full-any (x ∷ xs) all = ap (λ b. b || list_any (concerns pipes.Full) xs) (changes_concern x (All-head (λ s. is_change s ≡ true) x xs all)) ∙ sym (has_some xs)

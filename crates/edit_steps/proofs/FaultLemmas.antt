@@ -6,14 +6,15 @@ use Rattle.std.proofs.lemmas.Bool.{leb-false}
 use Rattle.std.proofs.lemmas.List.Sums.{sum_by-append, length-filter}
 use Rattle.std.proofs.lemmas.List.{append-nil}
 use Rattle.history.specs.Stack.{Stack}
+use Rattle.edit_steps.specs.declared.settings.Settings.{Settings}
 use Rattle.edit_steps.specs.declared.step.Step.{Step}
 use Rattle.edit_steps.specs.declared.step.Step.TheVariants as steps
 use Rattle.edit_steps.specs.declared.fault.Reason.{Reason}
 use Rattle.edit_steps.specs.declared.fault.Reason.TheVariants as reasons
 use Rattle.edit_steps.specs.declared.fault.ScriptFault.{ScriptFault}
-use Rattle.edit_steps.specs.Changes.{is_change, changes_of, history_behind, history_after}
-use Rattle.edit_steps.specs.Faults.{is_export, is_thumbnail, is_settle, refuse_from, limit_fault, history_fault, step_fault, fault_behind, next_fault, steps_fault}
-use Rattle.edit_steps.proofs.ChangeLemmas.{history_after-append}
+use Rattle.edit_steps.specs.Changes.{is_change, changes_of, Histories, first_histories, histories_behind, histories_after}
+use Rattle.edit_steps.specs.Faults.{is_export, is_thumbnail, is_settle, refuse_from, change_limit, limit_fault, window_fault, history_fault, step_fault, fault_behind, next_fault, steps_fault}
+use Rattle.edit_steps.proofs.ChangeLemmas.{histories_after-append}
 
 or_none : {X : Type 0} (o : Option X) → option_or o None ≡ o
 or_none None = refl
@@ -36,27 +37,27 @@ none_mapped f None e = refl
 none_mapped f (Some x) e = cc
 
 -- the first fault of steps with more behind them
-pub steps_fault-append : (opening : Stack) (before xs ys : List Step) →
-    steps_fault opening before (xs ++ ys) ≡ option_or (steps_fault opening before xs) (steps_fault opening (before ++ xs) ys)
-steps_fault-append opening before [] ys = ap (λ b. steps_fault opening b ys) (sym (append-nil before))
-steps_fault-append opening before (x ∷ xs) ys =
-    ap (option_or (next_fault opening before x)) (steps_fault-append opening (before ++ x ∷ []) xs ys)
-    ∙ or_assoc (next_fault opening before x) (steps_fault opening (before ++ x ∷ []) xs) (steps_fault opening ((before ++ x ∷ []) ++ xs) ys)
-    ∙ ap (λ b. option_or (option_or (next_fault opening before x) (steps_fault opening (before ++ x ∷ []) xs)) (steps_fault opening b ys)) (append_assoc before (x ∷ []) xs)
+pub steps_fault-append : (settings : Settings) (opening : Stack) (before xs ys : List Step) →
+    steps_fault settings opening before (xs ++ ys) ≡ option_or (steps_fault settings opening before xs) (steps_fault settings opening (before ++ xs) ys)
+steps_fault-append settings opening before [] ys = ap (λ b. steps_fault settings opening b ys) (sym (append-nil before))
+steps_fault-append settings opening before (x ∷ xs) ys =
+    ap (option_or (next_fault settings opening before x)) (steps_fault-append settings opening (before ++ x ∷ []) xs ys)
+    ∙ or_assoc (next_fault settings opening before x) (steps_fault settings opening (before ++ x ∷ []) xs) (steps_fault settings opening ((before ++ x ∷ []) ++ xs) ys)
+    ∙ ap (λ b. option_or (option_or (next_fault settings opening before x) (steps_fault settings opening (before ++ x ∷ []) xs)) (steps_fault settings opening b ys)) (append_assoc before (x ∷ []) xs)
 
-pub steps_fault-push : (opening : Stack) (xs : List Step) (s : Step) → steps_fault opening [] xs ≡ None → next_fault opening xs s ≡ None → steps_fault opening [] (xs ++ s ∷ []) ≡ None
-steps_fault-push opening xs s none last =
-    steps_fault-append opening [] xs (s ∷ []) ∙ ap (λ o. option_or o (steps_fault opening xs (s ∷ []))) none ∙ or_none (next_fault opening xs s) ∙ last
+pub steps_fault-push : (settings : Settings) (opening : Stack) (xs : List Step) (s : Step) → steps_fault settings opening [] xs ≡ None → next_fault settings opening xs s ≡ None → steps_fault settings opening [] (xs ++ s ∷ []) ≡ None
+steps_fault-push settings opening xs s none last =
+    steps_fault-append settings opening [] xs (s ∷ []) ∙ ap (λ o. option_or o (steps_fault settings opening xs (s ∷ []))) none ∙ or_none (next_fault settings opening xs s) ∙ last
 
 -- a step that follows steps without a fault
-pub steps_fault-more : (opening : Stack) (xs : List Step) (s : Step) → steps_fault opening [] xs ≡ None → step_fault opening xs s ≡ None → steps_fault opening [] (xs ++ s ∷ []) ≡ None
-steps_fault-more opening xs s none last =
-    steps_fault-push opening xs s none (ap (option_map (fault_behind xs)) last)
+pub steps_fault-more : (settings : Settings) (opening : Stack) (xs : List Step) (s : Step) → steps_fault settings opening [] xs ≡ None → step_fault settings opening xs s ≡ None → steps_fault settings opening [] (xs ++ s ∷ []) ≡ None
+steps_fault-more settings opening xs s none last =
+    steps_fault-push settings opening xs s none (ap (option_map (fault_behind xs)) last)
 
 -- the first fault, at a step behind steps without one
-pub steps_fault-at : (opening : Stack) (xs : List Step) (s : Step) (rest : List Step) (fault : ScriptFault) → steps_fault opening [] xs ≡ None → next_fault opening xs s ≡ Some fault → steps_fault opening [] (xs ++ s ∷ rest) ≡ Some fault
-steps_fault-at opening xs s rest fault none first =
-    steps_fault-append opening [] xs (s ∷ rest) ∙ ap (λ o. option_or o (steps_fault opening xs (s ∷ rest))) none ∙ ap (λ o. option_or o (steps_fault opening (xs ++ s ∷ []) rest)) first
+pub steps_fault-at : (settings : Settings) (opening : Stack) (xs : List Step) (s : Step) (rest : List Step) (fault : ScriptFault) → steps_fault settings opening [] xs ≡ None → next_fault settings opening xs s ≡ Some fault → steps_fault settings opening [] (xs ++ s ∷ rest) ≡ Some fault
+steps_fault-at settings opening xs s rest fault none first =
+    steps_fault-append settings opening [] xs (s ∷ rest) ∙ ap (λ o. option_or o (steps_fault settings opening xs (s ∷ rest))) none ∙ ap (λ o. option_or o (steps_fault settings opening (xs ++ s ∷ []) rest)) first
 
 -- ---- limits
 
@@ -96,19 +97,21 @@ more passes most reason xs s none =
     let below = leb-false most (count_by passes xs) (open_from (nat_le most (count_by passes xs)) reason none) in
     omega (arith, count-push passes xs s, below, at_most_one (passes s))
 
+-- a change that isn't one too many
+AreFew-change : (xs : List Step) (s : Step) → is_export s ≡ false → is_thumbnail s ≡ false → is_settle s ≡ false → AreFew xs → change_limit xs ≡ None → AreFew (xs ++ s ∷ [])
+AreFew-change xs s no_export no_thumbnail no_settle few none = record {
+  changes = more is_change 256 reasons.TooManyChanges xs s none;
+  exports = kept is_export 8 xs s no_export few.exports;
+  thumbnails = kept is_thumbnail 16 xs s no_thumbnail few.thumbnails;
+  settles = kept is_settle 256 xs s no_settle few.settles;
+}
+
 AreFew-more : (xs : List Step) (s : Step) → AreFew xs → limit_fault xs s ≡ None → AreFew (xs ++ s ∷ [])
-AreFew-more xs (steps.Edit e) few none = record {
-  changes = more is_change 256 reasons.TooManyChanges xs (steps.Edit e) none;
-  exports = kept is_export 8 xs (steps.Edit e) refl few.exports;
-  thumbnails = kept is_thumbnail 16 xs (steps.Edit e) refl few.thumbnails;
-  settles = kept is_settle 256 xs (steps.Edit e) refl few.settles;
-}
-AreFew-more xs (steps.View v) few none = record {
-  changes = more is_change 256 reasons.TooManyChanges xs (steps.View v) none;
-  exports = kept is_export 8 xs (steps.View v) refl few.exports;
-  thumbnails = kept is_thumbnail 16 xs (steps.View v) refl few.thumbnails;
-  settles = kept is_settle 256 xs (steps.View v) refl few.settles;
-}
+AreFew-more xs (steps.Edit e) few none = AreFew-change xs (steps.Edit e) refl refl refl few none
+AreFew-more xs steps.Undo few none = AreFew-change xs steps.Undo refl refl refl few none
+AreFew-more xs steps.Redo few none = AreFew-change xs steps.Redo refl refl refl few none
+AreFew-more xs (steps.View v) few none = AreFew-change xs (steps.View v) refl refl refl few none
+AreFew-more xs (steps.Second v) few none = AreFew-change xs (steps.Second v) refl refl refl few none
 AreFew-more xs (steps.Export size depth) few none = record {
   changes = kept is_change 256 xs (steps.Export size depth) refl few.changes;
   exports = more is_export 8 reasons.TooManyExports xs (steps.Export size depth) none;
@@ -129,17 +132,20 @@ AreFew-more xs steps.Settle few none = record {
 }
 
 -- steps without a fault behind few steps
-AreFew-steps : (opening : Stack) (before xs : List Step) → AreFew before → steps_fault opening before xs ≡ None → AreFew (before ++ xs)
-AreFew-steps opening before [] few none = subst AreFew (sym (append-nil before)) few
-AreFew-steps opening before (x ∷ xs) few none =
-    let first = none_mapped (fault_behind before) (step_fault opening before x) (none_first (next_fault opening before x) (steps_fault opening (before ++ x ∷ []) xs) none) in
-    let limit = none_first (limit_fault before x) (history_fault (history_after opening before) x) first in
-    let rest = none_last (next_fault opening before x) (steps_fault opening (before ++ x ∷ []) xs) none in
-    subst AreFew (append_assoc before (x ∷ []) xs) (AreFew-steps opening (before ++ x ∷ []) xs (AreFew-more before x few limit) rest)
+AreFew-steps : (settings : Settings) (opening : Stack) (before xs : List Step) → AreFew before → steps_fault settings opening before xs ≡ None → AreFew (before ++ xs)
+AreFew-steps settings opening before [] few none = subst AreFew (sym (append-nil before)) few
+AreFew-steps settings opening before (x ∷ xs) few none =
+    let first = none_mapped (fault_behind before) (step_fault settings opening before x) (none_first (next_fault settings opening before x) (steps_fault settings opening (before ++ x ∷ []) xs) none) in
+    let limit = none_first (limit_fault before x) (option_or (window_fault settings x) (history_fault (histories_after (first_histories settings opening) before) x)) first in
+    let rest = none_last (next_fault settings opening before x) (steps_fault settings opening (before ++ x ∷ []) xs) none in
+    subst AreFew (append_assoc before (x ∷ []) xs) (AreFew-steps settings opening (before ++ x ∷ []) xs (AreFew-more before x few limit) rest)
 
 one_sort : (s : Step) → cond (is_change s) 1 0 + (cond (is_export s) 1 0 + (cond (is_thumbnail s) 1 0 + cond (is_settle s) 1 0)) ≡ 1
 one_sort (steps.Edit e) = refl
+one_sort steps.Undo = refl
+one_sort steps.Redo = refl
 one_sort (steps.View v) = refl
+one_sort (steps.Second v) = refl
 one_sort (steps.Export size depth) = refl
 one_sort (steps.Thumbnail size) = refl
 one_sort steps.Settle = refl
@@ -152,32 +158,32 @@ length-sorts (x ∷ xs) =
     omega (arith, sorts, count-cons is_change x xs, count-cons is_export x xs, count-cons is_thumbnail x xs, count-cons is_settle x xs, one_sort x)
 
 -- a script has at most 536 steps, of which 256 are changes
-pub steps-few : (opening : Stack) (xs : List Step) → steps_fault opening [] xs ≡ None → length xs ≤ 536
-steps-few opening xs none =
-    let few = AreFew-steps opening [] xs AreFew-none none in
+pub steps-few : (settings : Settings) (opening : Stack) (xs : List Step) → steps_fault settings opening [] xs ≡ None → length xs ≤ 536
+steps-few settings opening xs none =
+    let few = AreFew-steps settings opening [] xs AreFew-none none in
     omega (arith, length-sorts xs, few.changes, few.exports, few.thumbnails, few.settles)
 
-pub changes-few : (opening : Stack) (xs : List Step) → steps_fault opening [] xs ≡ None → length (changes_of xs) ≤ 256
-changes-few opening xs none =
-    let few = AreFew-steps opening [] xs AreFew-none none in
+pub changes-few : (settings : Settings) (opening : Stack) (xs : List Step) → steps_fault settings opening [] xs ≡ None → length (changes_of xs) ≤ 256
+changes-few settings opening xs none =
+    let few = AreFew-steps settings opening [] xs AreFew-none none in
     omega (arith, length-filter is_change xs, few.changes)
 
 -- ---- histories
 
--- each step is allowed on the history before it
-abbrev pub AreAllowed : Stack → List Step → Type 0
-AreAllowed h [] = ⊤
-AreAllowed h (x ∷ xs) = (history_fault h x ≡ None) × AreAllowed (history_behind h x) xs
+-- each step is allowed on the histories before it
+abbrev pub AreAllowed : Histories → List Step → Type 0
+AreAllowed hs [] = ⊤
+AreAllowed hs (x ∷ xs) = (history_fault hs x ≡ None) × AreAllowed (histories_behind hs x) xs
 
-AreAllowed-steps : (opening : Stack) (before xs : List Step) → steps_fault opening before xs ≡ None → AreAllowed (history_after opening before) xs
-AreAllowed-steps opening before [] none = tt
-AreAllowed-steps opening before (x ∷ xs) none =
-    let first = none_mapped (fault_behind before) (step_fault opening before x) (none_first (next_fault opening before x) (steps_fault opening (before ++ x ∷ []) xs) none) in
-    let rest = none_last (next_fault opening before x) (steps_fault opening (before ++ x ∷ []) xs) none in (
-      none_last (limit_fault before x) (history_fault (history_after opening before) x) first,
-      subst (λ h. AreAllowed h xs) (history_after-append opening before (x ∷ [])) (AreAllowed-steps opening (before ++ x ∷ []) xs rest),
+AreAllowed-steps : (settings : Settings) (opening : Stack) (before xs : List Step) → steps_fault settings opening before xs ≡ None → AreAllowed (histories_after (first_histories settings opening) before) xs
+AreAllowed-steps settings opening before [] none = tt
+AreAllowed-steps settings opening before (x ∷ xs) none =
+    let first = none_mapped (fault_behind before) (step_fault settings opening before x) (none_first (next_fault settings opening before x) (steps_fault settings opening (before ++ x ∷ []) xs) none) in
+    let rest = none_last (next_fault settings opening before x) (steps_fault settings opening (before ++ x ∷ []) xs) none in (
+      none_last (window_fault settings x) (history_fault (histories_after (first_histories settings opening) before) x) (none_last (limit_fault before x) (option_or (window_fault settings x) (history_fault (histories_after (first_histories settings opening) before) x)) first),
+      subst (λ hs. AreAllowed hs xs) (histories_after-append (first_histories settings opening) before (x ∷ [])) (AreAllowed-steps settings opening (before ++ x ∷ []) xs rest),
     )
 
 -- the steps of a script are allowed one after the other
-pub AreAllowed-all : (opening : Stack) (xs : List Step) → steps_fault opening [] xs ≡ None → AreAllowed opening xs
-AreAllowed-all opening xs none = AreAllowed-steps opening [] xs none
+pub AreAllowed-all : (settings : Settings) (opening : Stack) (xs : List Step) → steps_fault settings opening [] xs ≡ None → AreAllowed (first_histories settings opening) xs
+AreAllowed-all settings opening xs none = AreAllowed-steps settings opening [] xs none

@@ -1,64 +1,103 @@
 -- Changes, and what stands behind them.
-use Rattle.std.specs.Prelude.{Bool, true, false, List, [], ◌∷◌}
+use Rattle.std.specs.Prelude.{Bool, true, false, is_some, List, [], ◌∷◌, Option, Some, None}
 use Rattle.std.specs.List.{filter, list_any}
 use Rattle.px.specs.declared.view.View.{View}
-use Rattle.outside.specs.declared.job_name.Pipe.{Pipe}
-use Rattle.outside.specs.declared.job_name.Pipe.TheVariants as pipes
+use Rattle.undo_stack.specs.Undoing.{Undoing, start, changed, undone, redone}
 use Rattle.history.specs.declared.changes.Kind.{Kind}
 use Rattle.history.specs.declared.changes.Kind.TheVariants as kind
 use Rattle.history.specs.declared.changes.Kinds.{Kinds}
 use Rattle.history.specs.Stack.{Stack}
 use Rattle.history.specs.After.{after, kind_of}
+use Rattle.edit_steps.specs.declared.change.Scope.{Scope}
+use Rattle.edit_steps.specs.declared.change.Scope.TheVariants as scopes
+use Rattle.edit_steps.specs.declared.settings.Settings.{Settings}
 use Rattle.edit_steps.specs.declared.step.Step.{Step}
 use Rattle.edit_steps.specs.declared.step.Step.TheVariants as steps
 
--- whether the step makes a new moment: edits and views do
+-- what a step is a change of, where it makes a new moment
+abbrev pub scope_of : Step → Option Scope
+scope_of (steps.Edit edit) = Some scopes.History
+scope_of steps.Undo = Some scopes.History
+scope_of steps.Redo = Some scopes.History
+scope_of (steps.View view) = Some scopes.View
+scope_of (steps.Second view) = Some scopes.Second
+scope_of (steps.Export size depth) = None
+scope_of (steps.Thumbnail size) = None
+scope_of steps.Settle = None
+
+-- whether the step makes a new moment: edits, undos, redos, views and second views do
 abbrev pub is_change : Step → Bool
-is_change (steps.Edit edit) = true
-is_change (steps.View view) = true
-is_change (steps.Export size depth) = false
-is_change (steps.Thumbnail size) = false
-is_change steps.Settle = false
+is_change step = is_some (scope_of step)
 
 -- the changes among the steps, in their order
 abbrev pub changes_of : List Step → List Step
 changes_of all = filter is_change all
 
--- the history behind a step: an edit alone changes it
-abbrev pub history_behind : Stack → Step → Stack
-history_behind h (steps.Edit edit) = after h edit
-history_behind h (steps.View view) = h
-history_behind h (steps.Export size depth) = h
-history_behind h (steps.Thumbnail size) = h
-history_behind h steps.Settle = h
+-- ---- histories: the one that stands, those before it and those that were taken back
 
--- the history behind all the steps
-abbrev pub history_after : Stack → List Step → Stack
-history_after h [] = h
-history_after h (s ∷ ss) = history_after (history_behind h s) ss
+abbrev pub Histories : Type 0
+Histories = Undoing Stack
+
+-- what a script begins with: its opening history, nothing to undo and nothing to redo
+abbrev pub first_histories : Settings → Stack → Histories
+first_histories s h = start h s.undo_depth
+
+-- the histories behind a step
+abbrev pub histories_behind : Histories → Step → Histories
+histories_behind hs (steps.Edit edit) = changed hs (after hs.present edit)
+histories_behind hs steps.Undo = undone hs
+histories_behind hs steps.Redo = redone hs
+histories_behind hs (steps.View view) = hs
+histories_behind hs (steps.Second view) = hs
+histories_behind hs (steps.Export size depth) = hs
+histories_behind hs (steps.Thumbnail size) = hs
+histories_behind hs steps.Settle = hs
+
+-- the histories behind all the steps
+abbrev pub histories_after : Histories → List Step → Histories
+histories_after hs [] = hs
+histories_after hs (s ∷ ss) = histories_after (histories_behind hs s) ss
+
+-- ---- views
 
 -- the view behind a step
 abbrev pub view_behind : View → Step → View
-view_behind v (steps.Edit edit) = v
 view_behind v (steps.View view) = view
-view_behind v (steps.Export size depth) = v
-view_behind v (steps.Thumbnail size) = v
-view_behind v steps.Settle = v
+view_behind v _ = v
 
 -- the view behind all the steps
 abbrev pub view_after : View → List Step → View
 view_after v [] = v
 view_after v (s ∷ ss) = view_after (view_behind v s) ss
 
--- the kind of a change of this history: a view leaves it
-abbrev pub change_kind : Stack → Step → Kind
-change_kind h (steps.Edit edit) = kind_of h edit
-change_kind h _ = kind.Zoomed
+-- the second window's view, where there is that window
+abbrev pub other_view : Option View → View → Option View
+other_view None view = None
+other_view (Some v) view = Some view
+
+-- the second view behind a step
+abbrev pub second_behind : Option View → Step → Option View
+second_behind w (steps.Second view) = other_view w view
+second_behind w _ = w
+
+-- the second view behind all the steps
+abbrev pub second_after : Option View → List Step → Option View
+second_after w [] = w
+second_after w (s ∷ ss) = second_after (second_behind w s) ss
+
+-- ---- kinds
+
+-- the kind of a change of these histories: a view leaves them
+abbrev pub change_kind : Histories → Step → Kind
+change_kind hs (steps.Edit edit) = kind_of hs.present edit
+change_kind hs steps.Undo = kind.Remove
+change_kind hs steps.Redo = kind.Remove
+change_kind hs _ = kind.Zoomed
 
 -- the kinds of the changes, one after the other
-abbrev pub kinds_along : Stack → List Step → List Kind
-kinds_along h [] = []
-kinds_along h (s ∷ ss) = change_kind h s ∷ kinds_along (history_behind h s) ss
+abbrev pub kinds_along : Histories → List Step → List Kind
+kinds_along hs [] = []
+kinds_along hs (s ∷ ss) = change_kind hs s ∷ kinds_along (histories_behind hs s) ss
 
 abbrev pub is_top : Kind → Bool
 is_top kind.Top = true
@@ -79,12 +118,3 @@ is_zoomed _ = false
 -- the kinds of a list, as a set
 abbrev pub kinds_in : List Kind → Kinds
 kinds_in ks = record { top = list_any is_top ks; synch = list_any is_synch ks; remove = list_any is_remove ks; zoomed = list_any is_zoomed ks }
-
--- whether the step changes what the pipe shows: an edit changes it at every pipe, a view at the full pipe alone
-abbrev pub concerns : Pipe → Step → Bool
-concerns pipe (steps.Edit edit) = true
-concerns pipes.Full (steps.View view) = true
-concerns pipes.Preview (steps.View view) = false
-concerns pipe (steps.Export size depth) = false
-concerns pipe (steps.Thumbnail size) = false
-concerns pipe steps.Settle = false

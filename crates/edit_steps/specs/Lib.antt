@@ -1,5 +1,7 @@
+pub mod Settings
 pub mod Ranges
 pub mod Changes
+pub mod Pipes
 pub mod Faults
 pub mod Script
 pub mod Kept

@@ -12,7 +12,7 @@ use Rattle.edit_steps.specs.declared.settings.Settings.{Settings}
 use Rattle.edit_steps.specs.declared.step.Step.{Step}
 use Rattle.edit_steps.specs.declared.step.Step.TheVariants as steps
 
--- a window that the full pipe can show
+-- what a window can show
 pub record IsView (v : View) : Type 0 where
   pub some_factor : 1 ≤ v.factor
   pub small_factor : v.factor ≤ 64
@@ -49,7 +49,10 @@ pub record IsSettings (s : Settings) : Type 0 where
   pub few_pixels : s.stage_pixels ≤ 33554432
   pub some_slots : 1 ≤ s.mip_slots
   pub few_slots : s.mip_slots ≤ 4
+  pub some_undo : 1 ≤ s.undo_depth
+  pub small_undo : s.undo_depth ≤ 64
   pub view : IsView s.view
+  pub second : IfSome s.second IsView
 
 -- a history that a script may begin with: at most 256 items, and an order of the eight modules' instances
 pub record IsOpening (h : Stack) : Type 0 where
@@ -70,7 +73,10 @@ IsEditWithin (edits.Move m instance place) = place ≤ 65535
 -- the numbers of a step are within their ranges
 abbrev pub IsStepWithin : Step → Type 0
 IsStepWithin (steps.Edit edit) = IsEditWithin edit
+IsStepWithin steps.Undo = ⊤
+IsStepWithin steps.Redo = ⊤
 IsStepWithin (steps.View view) = IsView view
+IsStepWithin (steps.Second view) = IsView view
 IsStepWithin (steps.Export size depth) = IfSome size IsBox
 IsStepWithin (steps.Thumbnail size) = IsThumbnailBox size
 IsStepWithin steps.Settle = ⊤

@@ -1,5 +1,5 @@
 -- Whole scripts, and the moments of a script: how many changes were made.
-use Rattle.std.specs.Prelude.{◌≡◌, ℕ, Bool, List, [], ◌∷◌, ◌++◌, length, take, slice_range, None}
+use Rattle.std.specs.Prelude.{◌≡◌, ℕ, Bool, List, [], ◌∷◌, ◌++◌, length, take, slice_range, Option, None}
 use Rattle.std.specs.List.{All, list_any}
 use Rattle.px.specs.declared.view.View.{View}
 use Rattle.outside.specs.declared.job_name.Pipe.{Pipe}
@@ -9,7 +9,8 @@ use Rattle.history.specs.Stack.{Stack}
 use Rattle.edit_steps.specs.declared.settings.Settings.{Settings}
 use Rattle.edit_steps.specs.declared.step.Step.{Step}
 use Rattle.edit_steps.specs.Ranges.{IsSettings, IsOpening, IsStepWithin}
-use Rattle.edit_steps.specs.Changes.{changes_of, history_after, view_after, kinds_along, kinds_in, concerns}
+use Rattle.edit_steps.specs.Changes.{changes_of, first_histories, histories_after, view_after, second_after, kinds_along, kinds_in}
+use Rattle.edit_steps.specs.Pipes.{concerns}
 use Rattle.edit_steps.specs.Faults.{steps_fault}
 
 -- what a script says
@@ -30,7 +31,7 @@ pub record IsScript (r : Recipe) : Type 0 where
   pub settings : IsSettings r.settings
   pub opening : IsOpening r.opening
   pub within : All IsStepWithin r.steps
-  pub allowed : steps_fault r.opening [] r.steps ≡ None
+  pub allowed : steps_fault r.settings r.opening [] r.steps ≡ None
 
 -- how many changes the script makes
 abbrev pub changes : Recipe → ℕ
@@ -38,15 +39,19 @@ changes r = length (changes_of r.steps)
 
 -- the history after the first m changes
 abbrev pub history_at : Recipe → ℕ → Stack
-history_at r m = history_after r.opening (take m (changes_of r.steps))
+history_at r m = (histories_after (first_histories r.settings r.opening) (take m (changes_of r.steps))).present
 
 -- the view after the first m changes
 abbrev pub view_at : Recipe → ℕ → View
 view_at r m = view_after r.settings.view (take m (changes_of r.steps))
 
+-- the second view after the first m changes, where there is a second window
+abbrev pub second_at : Recipe → ℕ → Option View
+second_at r m = second_after r.settings.second (take m (changes_of r.steps))
+
 -- the kind of each change
 abbrev pub kinds_of : Recipe → List Kind
-kinds_of r = kinds_along r.opening (changes_of r.steps)
+kinds_of r = kinds_along (first_histories r.settings r.opening) (changes_of r.steps)
 
 -- the kinds of the changes from + 1 to `to`, as a set
 abbrev pub kinds_between : Recipe → ℕ → ℕ → Kinds

@@ -1,8 +1,10 @@
-ghost use Rattle.std.specs.Prelude.{◌≡◌, ◌<◌, ◌+◌, ◌++◌, ◌∷◌, [], length, if◌then◌else◌, vec_len, vec_capacity, IfOk, OnOk, OnErr};
-ghost use Rattle.edit_steps.specs.Changes.{is_change};
+ghost use Rattle.std.specs.Prelude.{◌≡◌, ◌<◌, ◌+◌, ◌++◌, ◌∷◌, [], length, vec_len, vec_capacity, IfOk, OnOk, OnErr};
+ghost use Rattle.edit_steps.specs.Changes.{scope_of};
+ghost use Rattle.edit_steps.specs.Kept.{kept_as};
 
+use crate::change::Change;
 use crate::fault::{Reason, ScriptEnd, ScriptFault};
-use crate::judging::{follow, history_fault, limit_fault};
+use crate::judging::{follow, history_fault, limit_fault, window_fault};
 use crate::script::Script;
 use crate::settings::Settings;
 use crate::step::Step;
@@ -10,6 +12,7 @@ use history::{History, Kind};
 use px::View;
 use std::alloc::{AllocError, Global};
 use std::marker::Model;
+use undo_stack::Undo;
 
 /// A script that grows step by step. It is seen as the script so far.
 #[derive(Debug, Drop)]
@@ -17,12 +20,11 @@ pub struct Draft {
     settings: Settings,
     opening: History,
     steps: Vec<Step>,
-    // Of each change so far its kind, and the view after it.
-    kinds: Vec<Kind>,
-    views: Vec<View>,
-    // The history and the view behind the steps so far.
-    history: History,
+    changes: Vec<Change>,
+    // The histories and the views behind the steps so far.
+    histories: Undo<History>,
     view: View,
+    second: Option<View>,
 }
 
 impl Model for Draft {
@@ -34,7 +36,7 @@ impl Model for Draft {
 
     ghost view = { λ d. recipe d.settings d.opening d.steps.items };
 
-    ghost invariant = { λ d. IsKept (recipe d.settings d.opening d.steps.items) d.kinds.items d.views.items × StandsBehind (recipe d.settings d.opening d.steps.items) d.history d.view };
+    ghost invariant = { λ d. IsKept (recipe d.settings d.opening d.steps.items) d.changes.items × StandsBehind (recipe d.settings d.opening d.steps.items) d.histories d.view d.second };
 }
 
 impl Draft {
@@ -50,15 +52,16 @@ impl Draft {
         requires opening { IsOpening opening }
         ensures { IfOk result (λ d. d ≡ recipe settings opening []) }
     {
-        let history = opening.copy(alloc)?;
+        let present = opening.copy(alloc)?;
+        let histories = Undo::new(alloc, present, settings.undo_depth)?;
         Ok(Draft {
             settings,
             opening,
             steps: Vec::new(alloc),
-            kinds: Vec::new(alloc),
-            views: Vec::new(alloc),
-            history,
+            changes: Vec::new(alloc),
+            histories,
             view: settings.view,
+            second: settings.second,
         })
     }
 
@@ -71,11 +74,12 @@ impl Draft {
     }
 
     /// Puts a step behind the others. It is refused, with its number, where it is a change behind 256
-    /// changes, an export behind 8, a thumbnail behind 16 or a settle behind 256, and else where the
-    /// history that the steps before it leave doesn't allow its edit. On an error the draft is as before.
+    /// changes, an export behind 8, a thumbnail behind 16 or a settle behind 256; else where it is a second
+    /// view and there is no second window, an undo or a redo with nowhere to go, or an edit that the
+    /// history doesn't allow which the steps before it leave. On an error the draft is as before.
     pub fn push(&mut self, alloc: Global, step: Step) -> Result<(), ScriptEnd>
         requires { IsStepWithin step }
-        ensures answer { Judges (next_fault self.old.opening self.old.steps step) result }
+        ensures answer { Judges (next_fault self.old.settings self.old.opening self.old.steps step) result }
         ensures longer { OnOk result (self.new ≡ with_step self.old step) }
         ensures unchanged { OnErr result (self.new ≡ self.old) }
     {
@@ -91,50 +95,49 @@ impl Draft {
     pub fn finish(self) -> Script
         ensures { result ≡ self }
     {
-        Script::kept(
-            self.settings,
-            self.opening,
-            self.steps,
-            self.kinds,
-            self.views,
-        )
+        Script::kept(self.settings, self.opening, self.steps, self.changes)
     }
 
     // Why the step can't follow those before it.
     fn step_fault(&self, step: &Step) -> Option<Reason>
-        ensures { result ≡ step_fault self.now.opening self.now.steps step.now }
+        ensures { result ≡ step_fault self.now.settings self.now.opening self.now.steps step.now }
     {
-        match limit_fault(&self.steps, step) {
-            Some(reason) => Some(reason),
-            None => history_fault(&self.history, step),
-        }
+        let at_present = window_fault(&self.settings, step).or(history_fault(
+            &self.histories,
+            step,
+        ));
+        limit_fault(&self.steps, step).or(at_present)
     }
 
     // Puts a step without fault behind the others.
     fn add(&mut self, alloc: Global, step: Step) -> Result<(), AllocError>
         requires within { IsStepWithin step }
-        requires allowed { step_fault self.old.opening self.old.steps step ≡ None }
+        requires allowed { step_fault self.old.settings self.old.opening self.old.steps step ≡ None }
         ensures longer { OnOk result (self.new ≡ with_step self.old step) }
         ensures unchanged { OnErr result (self.new ≡ self.old) }
     {
         self.steps.reserve(1)?;
-        self.kinds.reserve(1)?;
-        self.views.reserve(1)?;
-        let kind = follow(alloc, &mut self.history, &step)?;
+        self.changes.reserve(1)?;
+        let kind = follow(alloc, &mut self.histories, &step)?;
         self.view = step.view_behind(self.view);
-        keep_of(&step, &mut self.kinds, kind);
-        keep_of(&step, &mut self.views, self.view);
+        self.second = step.second_behind(self.second);
+        keep_of(&step, &mut self.changes, kind, self.view, self.second);
         self.steps.push_reserved(step);
         Ok(())
     }
 }
 
-// Puts on what is kept of a step, where it is a change. There is room for it.
-fn keep_of<T: Copy>(step: &Step, kept: &mut Vec<T>, value: T)
-    requires { vec_len kept.old < vec_capacity kept.old }
-    ensures { kept.new.items ≡ (if is_change step.now then kept.old.items ++ value ∷ [] else kept.old.items) }
+// Keeps what is kept of a step, where it is a change. There is room for it.
+fn keep_of(step: &Step, changes: &mut Vec<Change>, kind: Kind, view: View, second: Option<View>)
+    requires { vec_len changes.old < vec_capacity changes.old }
+    ensures { changes.new.items ≡ changes.old.items ++ kept_as kind view second (scope_of step.now) }
 {
-    if step.is_change() {
-        kept.push_reserved(value);
+    if let Some(scope) = step.scope() {
+        changes.push_reserved(Change {
+            kind,
+            scope,
+            view,
+            second,
+        });
     }
 }

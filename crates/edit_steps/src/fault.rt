@@ -29,6 +29,12 @@ pub enum Reason {
     TooManyThumbnails,
     /// There is a 257th settle.
     TooManySettles,
+    /// A second view where there is no second window.
+    NoSecond,
+    /// An undo where no edit is left to take back.
+    NothingToUndo,
+    /// A redo where no edit was taken back, or an edit came after.
+    NothingToRedo,
 }
 
 impl fmt::Display for Reason {
@@ -53,6 +59,9 @@ impl fmt::Display for Reason {
             Reason::TooManyExports => f.write_str("too many exports"),
             Reason::TooManyThumbnails => f.write_str("too many thumbnails"),
             Reason::TooManySettles => f.write_str("too many settles"),
+            Reason::NoSecond => f.write_str("no second window"),
+            Reason::NothingToUndo => f.write_str("nothing to undo"),
+            Reason::NothingToRedo => f.write_str("nothing to redo"),
         }
     }
 }

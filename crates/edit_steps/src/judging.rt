@@ -1,13 +1,18 @@
-// Why a step can't follow those before it, and what an edit makes of the history.
+// Why a step can't follow those before it, and what it makes of the histories.
 ghost use Rattle.std.specs.Prelude.{◌≡◌, Bool, None, Some, IfOk, OnOk, OnErr, count_by};
 ghost use Rattle.edit_steps.specs.declared.step.Step.{Step};
-ghost use Rattle.edit_steps.specs.Changes.{is_change, history_behind, change_kind};
-ghost use Rattle.edit_steps.specs.Faults.{is_export, is_thumbnail, is_settle, limit_fault, history_fault};
+ghost use Rattle.history.specs.Faults.{edit_fault};
+ghost use Rattle.history.specs.After.{after, kind_of};
+ghost use Rattle.undo_stack.specs.Undoing.{changed};
+ghost use Rattle.edit_steps.specs.Changes.{is_change, histories_behind, change_kind};
+ghost use Rattle.edit_steps.specs.Faults.{is_export, is_thumbnail, is_settle, limit_fault, window_fault, history_fault};
 
 use crate::fault::Reason;
+use crate::settings::Settings;
 use crate::step::Step;
-use history::{History, Kind};
+use history::{Edit, History, Kind};
 use std::alloc::{AllocError, Global};
+use undo_stack::Undo;
 
 /// How many changes a script makes at most.
 pub const MAX_CHANGES: usize = 256;
@@ -26,7 +31,7 @@ pub(crate) fn limit_fault(before: &[Step], step: &Step) -> Option<Reason>
     ensures { result ≡ limit_fault before.now step.now }
 {
     match step {
-        Step::Edit(_) | Step::View(_) => {
+        Step::Edit(_) | Step::Undo | Step::Redo | Step::View(_) | Step::Second(_) => {
             (count_changes(before) >= MAX_CHANGES).then_some(Reason::TooManyChanges)
         }
         Step::Export { .. } => {
@@ -72,29 +77,74 @@ fn count_settles(steps: &[Step]) -> usize
         .count()
 }
 
-// The fault of a step on the history before it.
-pub(crate) fn history_fault(history: &History, step: &Step) -> Option<Reason>
-    ensures { result ≡ history_fault history.now step.now }
+// The fault of a step at the windows.
+pub(crate) fn window_fault(settings: &Settings, step: &Step) -> Option<Reason>
+    ensures { result ≡ window_fault settings.now step.now }
 {
-    let Step::Edit(edit) = step else {
-        return None;
-    };
-    match history.allowed(edit) {
-        Ok(()) => None,
-        Err(fault) => Some(Reason::Edit(fault)),
+    match step {
+        Step::Second(_) => match settings.second {
+            None => Some(Reason::NoSecond),
+            Some(_) => None,
+        },
+        _ => None,
     }
 }
 
-// Applies the step to the history, which allows it, and tells the kind of its change. On want of memory
-// the history is as before.
-pub(crate) fn follow(alloc: Global, history: &mut History, step: &Step) -> Result<Kind, AllocError>
-    requires { history_fault history.old step.now ≡ None }
-    ensures history { OnOk result (history.new ≡ history_behind history.old step.now) }
-    ensures kind { IfOk result (λ kind. kind ≡ change_kind history.old step.now) }
-    ensures unchanged { OnErr result (history.new ≡ history.old) }
+// The fault of a step on the histories before it.
+pub(crate) fn history_fault(histories: &Undo<History>, step: &Step) -> Option<Reason>
+    ensures { result ≡ history_fault histories.now step.now }
 {
     match step {
-        Step::Edit(edit) => history.apply(alloc, edit),
+        Step::Edit(edit) => match histories.now().allowed(edit) {
+            Ok(()) => None,
+            Err(fault) => Some(Reason::Edit(fault)),
+        },
+        Step::Undo => (histories.past() == 0).then_some(Reason::NothingToUndo),
+        Step::Redo => (histories.future() == 0).then_some(Reason::NothingToRedo),
+        _ => None,
+    }
+}
+
+// Makes an edit that the present history allows; the history before it is kept. On an error the
+// histories are as before.
+fn edit_present(
+    alloc: Global,
+    histories: &mut Undo<History>,
+    edit: &Edit,
+) -> Result<Kind, AllocError>
+    requires { edit_fault histories.old.present edit.now ≡ None }
+    ensures histories { OnOk result (histories.new ≡ changed histories.old (after histories.old.present edit.now)) }
+    ensures kind { IfOk result (λ kind. kind ≡ kind_of histories.old.present edit.now) }
+    ensures unchanged { OnErr result (histories.new ≡ histories.old) }
+{
+    let mut next = histories.now().copy(alloc)?;
+    let kind = next.apply(alloc, edit)?;
+    histories.change(next);
+    Ok(kind)
+}
+
+// Makes the step, which the histories allow, and tells the kind of its change. An edit alone may run out
+// of memory, and leaves the histories as before then.
+pub(crate) fn follow(
+    alloc: Global,
+    histories: &mut Undo<History>,
+    step: &Step,
+) -> Result<Kind, AllocError>
+    requires { history_fault histories.old step.now ≡ None }
+    ensures histories { OnOk result (histories.new ≡ histories_behind histories.old step.now) }
+    ensures kind { IfOk result (λ kind. kind ≡ change_kind histories.old step.now) }
+    ensures unchanged { OnErr result (histories.new ≡ histories.old) }
+{
+    match step {
+        Step::Edit(edit) => edit_present(alloc, histories, edit),
+        Step::Undo => {
+            let _went = histories.undo();
+            Ok(Kind::Remove)
+        }
+        Step::Redo => {
+            let _went = histories.redo();
+            Ok(Kind::Remove)
+        }
         _ => Ok(Kind::Zoomed),
     }
 }

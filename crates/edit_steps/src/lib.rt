@@ -1,8 +1,9 @@
 //! Whole edit scripts: the settings of a session, the history that it begins with, and the steps, each of
-//! which may follow those before it. A *draft* grows step by step; a *script* tells the history and the
-//! view after each of its changes. How scripts are written as JSON stands in another crate.
+//! which may follow those before it. A *draft* grows step by step; a *script* gives the history and the
+//! views after each of its changes. How scripts are written as JSON stands in another crate.
 #![tactic(auto)]
 
+mod change;
 mod draft;
 mod fault;
 mod judging;
@@ -20,6 +21,3 @@ pub use step::Step;
 
 /// How many items the history has at most that a script begins with.
 pub const MAX_ITEMS: usize = 256;
-
-#[cfg(test)]
-mod tests;

@@ -1,28 +1,28 @@
-ghost use Rattle.std.specs.Prelude.{◌≡◌, ◌≤◌, [], length, false, IfOk};
+ghost use Rattle.std.specs.Prelude.{◌≡◌, ◌≤◌, ◌↔◌, [], length, false, IfOk, IfSome, IsSome};
 
+use crate::change::{Change, any_reaches};
 use crate::draft::Draft;
 use crate::fault::ScriptEnd;
 use crate::judging::follow;
-use crate::kinds::{has_edit, kinds_in};
+use crate::kinds::kinds_in;
 use crate::settings::Settings;
 use crate::step::Step;
-use history::{History, Kind, Kinds};
+use history::{History, Kinds};
 use outside::Pipe;
 use px::View;
 use std::alloc::{AllocError, Global};
 use std::marker::Model;
+use undo_stack::Undo;
 
 /// A whole edit script: the settings of its session, the history that it begins with, and its steps, each
-/// of which may follow those before it. Edits and views are changes; the moment `m` is after the first `m`
-/// of them. Every value is within its range.
+/// of which may follow those before it. Edits, undos, redos, views and second views are changes; the moment
+/// `m` is after the first `m` of them. Every value is within its range.
 #[derive(Debug, Drop)]
 pub struct Script {
     settings: Settings,
     opening: History,
     steps: Vec<Step>,
-    // Of each change its kind, and the view after it.
-    kinds: Vec<Kind>,
-    views: Vec<View>,
+    changes: Vec<Change>,
 }
 
 impl Model for Script {
@@ -34,20 +34,21 @@ impl Model for Script {
 
     ghost view = { λ s. recipe s.settings s.opening s.steps.items };
 
-    ghost invariant = { λ s. IsKept (recipe s.settings s.opening s.steps.items) s.kinds.items s.views.items };
+    ghost invariant = { λ s. IsKept (recipe s.settings s.opening s.steps.items) s.changes.items };
 }
 
 impl Script {
     ghost use Rattle.edit_steps.specs.Ranges.{IsSettings, IsOpening, IsStepWithin, IsView};
     ghost use Rattle.std.specs.List.{All};
     ghost use Rattle.edit_steps.specs.Faults.{steps_fault};
-    ghost use Rattle.edit_steps.specs.Script.{recipe, IsScript, changes, history_at, view_at, kinds_between, concerns_between};
+    ghost use Rattle.edit_steps.specs.Script.{recipe, IsScript, changes, history_at, view_at, second_at, kinds_between, concerns_between};
     ghost use Rattle.edit_steps.specs.Kept.{IsKept};
     ghost use Rattle.edit_steps.specs.Answer.{Judges};
 
     /// The script of these settings, this opening history and these steps. It is refused with the first
     /// step, counted from 1, that is a change behind 256 changes, an export behind 8, a thumbnail behind
-    /// 16 or a settle behind 256, or else whose edit the history before it doesn't allow.
+    /// 16 or a settle behind 256, or else that is a second view where there is no second window, an undo
+    /// or a redo with nowhere to go, or an edit that the history before it doesn't allow.
     pub fn of(
         alloc: Global,
         settings: Settings,
@@ -57,7 +58,7 @@ impl Script {
         requires settings { IsSettings settings }
         requires opening { IsOpening opening }
         requires steps { All IsStepWithin steps.items }
-        ensures answer { Judges (steps_fault opening [] steps.items) result }
+        ensures answer { Judges (steps_fault settings opening [] steps.items) result }
         ensures script { IfOk result (λ script. script ≡ recipe settings opening steps.items) }
     {
         let mut draft = Draft::start(alloc, settings, opening)?;
@@ -72,18 +73,16 @@ impl Script {
         settings: Settings,
         opening: History,
         steps: Vec<Step>,
-        kinds: Vec<Kind>,
-        views: Vec<View>,
+        changes: Vec<Change>,
     ) -> Script
-        requires { IsKept (recipe settings opening steps.items) kinds.items views.items }
+        requires { IsKept (recipe settings opening steps.items) changes.items }
         ensures { result ≡ recipe settings opening steps.items }
     {
         Script {
             settings,
             opening,
             steps,
-            kinds,
-            views,
+            changes,
         }
     }
 
@@ -124,7 +123,7 @@ impl Script {
         ensures count { result ≡ changes self.now }
         ensures few { result ≤ 256 }
     {
-        self.kinds.len() as u32
+        self.changes.len() as u32
     }
 
     /// What the full pipe shows after the first `m` changes.
@@ -136,7 +135,20 @@ impl Script {
         if m == 0 {
             return self.settings.view;
         }
-        self.views[m as usize - 1]
+        self.changes[m as usize - 1].view
+    }
+
+    /// What the second pipe shows after the first `m` changes, where there is a second window.
+    pub fn second_at(&self, m: u32) -> Option<View>
+        requires { m ≤ changes self.now }
+        ensures value { result ≡ second_at self.now m }
+        ensures there { IsSome result ↔ IsSome self.now.settings.second }
+        ensures within { IfSome result IsView }
+    {
+        if m == 0 {
+            return self.settings.second;
+        }
+        self.changes[m as usize - 1].second
     }
 
     /// The kinds of the changes from + 1 to `to`. Where these are views alone, the history after the first
@@ -147,20 +159,17 @@ impl Script {
         ensures value { result ≡ kinds_between self.now from to }
         ensures same { result.top ≡ false → result.synch ≡ false → result.remove ≡ false → history_at self.now to ≡ history_at self.now from }
     {
-        kinds_in(&self.kinds[from as usize..to as usize])
+        kinds_in(&self.changes[from as usize..to as usize])
     }
 
-    /// Whether one of the changes from + 1 to `to` concerns the pipe: an edit concerns every pipe, a view
-    /// the full pipe alone.
+    /// Whether one of the changes from + 1 to `to` concerns the pipe: an edit, an undo and a redo concern
+    /// every pipe, a view the full pipe alone, and a second view the second pipe alone.
     pub fn concerns(&self, pipe: Pipe, from: u32, to: u32) -> bool
         requires rising { from ≤ to }
         requires there { to ≤ changes self.now }
         ensures { result ≡ concerns_between self.now pipe from to }
     {
-        match pipe {
-            Pipe::Full => from < to,
-            Pipe::Preview => has_edit(self.kinds(from, to)),
-        }
+        any_reaches(pipe, &self.changes[from as usize..to as usize])
     }
 
     /// The history after the first `m` changes.
@@ -168,17 +177,18 @@ impl Script {
         requires { m ≤ changes self.now }
         ensures { IfOk result (λ h. h ≡ history_at self.now m) }
     {
-        let mut history = self.opening.copy(alloc)?;
+        let present = self.opening.copy(alloc)?;
+        let mut histories = Undo::new(alloc, present, self.settings.undo_depth)?;
         let mut left = m;
         for step in &self.steps {
             if left == 0 {
-                return Ok(history);
+                return Ok(histories.into_now());
             }
-            follow(alloc, &mut history, step)?;
+            follow(alloc, &mut histories, step)?;
             if step.is_change() {
                 left -= 1;
             }
         }
-        Ok(history)
+        Ok(histories.into_now())
     }
 }

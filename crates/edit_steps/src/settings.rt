@@ -1,3 +1,9 @@
+ghost use Rattle.std.specs.Prelude.{◌≡◌};
+ghost use Rattle.edit_steps.specs.Pipes.{has_pipe};
+ghost use Rattle.edit_steps.specs.Ranges.{IsSettings};
+ghost use Rattle.edit_steps.specs.Settings.{start_view, start_settings};
+
+use outside::Pipe;
 use px::{Cfa, Depth, View};
 
 /// What a script says of the whole session.
@@ -17,6 +23,55 @@ pub struct Settings {
     pub stage_pixels: u32,
     /// How many mipmap levels are kept at most, 1 to 4.
     pub mip_slots: u32,
+    /// How many edits undo takes back at most, one after the other, 1 to 64.
+    pub undo_depth: u32,
     /// What the full pipe shows at first.
     pub view: View,
+    /// What the second pipe shows at first. `None` is a session without a second window.
+    pub second: Option<View>,
+}
+
+// The middle of the picture at its full size.
+fn start_view() -> View
+    ensures { result ≡ start_view }
+{
+    View {
+        factor: 1,
+        cx: 32_768,
+        cy: 32_768,
+        w: 720,
+        h: 480,
+    }
+}
+
+impl Settings {
+    /// The settings of a script that says none.
+    pub fn start() -> Settings
+        ensures settings { result ≡ start_settings }
+        ensures within { IsSettings result }
+    {
+        Settings {
+            cfa: None,
+            depth: Depth::Eight,
+            preview_side: 720,
+            workers: 2,
+            stage_entries: 16,
+            stage_pixels: 8_388_608,
+            mip_slots: 4,
+            undo_depth: 32,
+            view: start_view(),
+            second: None,
+        }
+    }
+
+    /// Whether there is such a pipe: the second one is there exactly where there is a second window.
+    pub fn has_pipe(&self, pipe: Pipe) -> bool
+        ensures { result ≡ has_pipe self.now pipe }
+    {
+        match pipe {
+            Pipe::Full => true,
+            Pipe::Preview => true,
+            Pipe::Second => self.second.is_some(),
+        }
+    }
 }

@@ -15,5 +15,3 @@ mod faults;
 mod items;
 mod lists;
 mod stack;
-#[cfg(test)]
-mod tests;

@@ -11,5 +11,3 @@ mod fault;
 mod lists;
 mod sequence;
 mod slots;
-#[cfg(test)]
-mod tests;

@@ -2,3 +2,4 @@ pub mod CurveLemmas
 pub mod LineLemmas
 pub mod MixLemmas
 pub mod NodeLemmas
+pub mod OldLemmas

@@ -1,4 +1,5 @@
 pub mod Curving
 pub mod Exposing
 pub mod Mixing
+pub mod Old
 pub mod Stepping

@@ -8,12 +8,12 @@ mod channel_table;
 mod curve_table;
 mod curving;
 mod exposing;
+mod migrating;
 mod mixing;
 mod steps;
-#[cfg(test)]
-mod tests;
 
 pub use curve_table::CurveTable;
 pub use curving::{curve, curve_in_turn};
 pub use exposing::exposure;
+pub use migrating::migrate_same;
 pub use mixing::{mixer, mixer_in_turn};

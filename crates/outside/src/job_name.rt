@@ -5,6 +5,8 @@ pub enum Pipe {
     Full,
     /// The whole picture at a small size.
     Preview,
+    /// The picture as the view of a second window shows it, where there is one.
+    Second,
 }
 
 /// What a job makes.

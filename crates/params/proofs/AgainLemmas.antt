@@ -1,54 +1,147 @@
--- What is written for settings, blends and masks is read again as the same.
-use Rattle.std.proofs.Common.{◌≡◌, ℕ, ◌+◌, ◌^◌, ◌<◌, ℤ, pos, negsuc, ◌≤ℤ◌, List, [], ◌∷◌, length, Option, Some, None, is_some, option_map, IfSome, Ok, false, refl, ap, ◌∙◌, arith, lt-ltb}
-use Rattle.std.specs.List.{slice_index, slice_index_or, AllByRecursion}
+-- What is written for settings, masks and blends is read again as the same.
+use Rattle.std.proofs.Common.{◌≡◌, ℕ, ◌≤◌, ℤ, pos, negsuc, ◌≤ℤ◌, List, [], ◌∷◌, ◌++◌, length, Bool, true, false, not, ◌&&◌, IsTrue, Option, Some, None, IfSome, Ok, refl, sym, ap, ◌∙◌, arith, true≢false}
+use Rattle.std.specs.Bool.{if◌then◌else◌}
+use Rattle.std.specs.Prelude.{codes}
+use Rattle.std.specs.Cmp.{unsigned_Decides}
+use Rattle.std.specs.List.{AllByRecursion}
+use Rattle.std.specs.Option.{option_map}
+use Rattle.std.specs.Int.RustNames.{int_le}
 use Rattle.std.proofs.lemmas.Int.{ints}
-use Rattle.serde_json.specs.Data.{object, no_members}
-use Rattle.serde_json.specs.Find.{as_null}
-use Rattle.params.specs.Form.{integer, three_integers}
+use Rattle.serde_json.specs.Data.{string, no_members}
+use Rattle.serde_json.specs.Find.{get_member}
+use Rattle.params.specs.Form.{integer, is_one_of, only}
 use Rattle.params.specs.Names.{mode_named, name_of_mode}
-use Rattle.params.specs.Rules.{AllKept, IsKept}
-use Rattle.params.specs.Ranges.{stated_raw, stated_crop, stated_exposure, stated_mixer, stated_shape, stated_blend, wide_three, wide_nodes, three_from, raw_entries, temperature_entries, crop_entries, exposure_entries, mixer_entries, nodes_entries, curve_entries, mask_entries, blend_entries, IsRawWithin, IsTemperatureWithin, IsCropWithin, IsExposureWithin, IsMixerWithin, IsCurveWithin, IsWithin, IsShapeWithin, IsBlendWithin, module_of}
-use Rattle.params.specs.Stated.{raw_form, temperature_form, demosaic_form, orientation_form, crop_form, exposure_form, mixer_form, pairs_form, curve_form, gradient_form, ellipse_form, shape_form, blend_form, null_or}
-use Rattle.params.specs.Read.{raw_of, naturals_of, temperature_of, crop_of, exposure_of, mixer_of, nodes_of, curve_of, shape_of, or_form, unless_fault, if_kept, raw_read, temperature_read, demosaic_read, orientation_read, crop_read, exposure_read, mixer_read, curve_read, read_as, params_of, blend_kept, blend_of}
-use Rattle.params.specs.Written.{natural_data, integer_data, row_data, raw_data, temperature_data, orientation_data, crop_data, exposure_data, mixer_data, nodes_data, curve_data, shape_data, mask_data, blend_value_data, params_data, blend_data}
+use Rattle.params.specs.Read.{or_form, unless_fault, newest_read, old_read, params_of, blend_kept, blend_of}
+use Rattle.params.specs.Rules.{first_fault, IsKept}
+use Rattle.params.specs.Stated.{cell_entries, cells_entries, row_entries, mask_entries, blend_entries, keys_of, shape_key, blend_keys, mask_named, mask_form, blend_form, null_or, is_row, Fits, HasLayout}
+use Rattle.params.specs.Table.{Part, one, three, nine, pairs, flag, row_of, old_row_of, blend_row, mask_row_of, name_of_mask}
+use Rattle.params.specs.Ranges.{IsWithin, IsBlendWithin, IsIn, IsSized, module_of, newest_of, old_version, version_of, kind_of, natural, entries_of, parts_of, old_parts_of, shape_parts, stated_mask, stated_blend, params_from, shape_from, mask_from, blend_from, naturals, wide_three, matrix, wide_nine}
+use Rattle.params.specs.Written.{natural_data, params_data, shape_member, shape_data, mask_data, blend_members, blend_value_data, blend_data, cells_members}
 use Rattle.params.specs.declared.blending.Blend.{Blend}
 use Rattle.params.specs.declared.blending.Mode.{Mode}
 use Rattle.params.specs.declared.blending.Mode.TheVariants as modes
 use Rattle.params.specs.declared.blending.Shape.{Shape}
-use Rattle.params.specs.declared.blending.Shape.TheVariants as shape
-use Rattle.params.specs.declared.fault.Field.{Field}
-use Rattle.params.specs.declared.fault.Field.TheVariants.{Nodes}
-use Rattle.params.specs.declared.rules.Entry.{Entry}
+use Rattle.params.specs.declared.blending.Shape.TheVariants as shapes
+use Rattle.params.specs.declared.masks.MaskKind.{MaskKind}
+use Rattle.params.specs.declared.masks.MaskKind.TheVariants as masks
+use Rattle.params.specs.declared.modules.Module.{Module}
+use Rattle.params.specs.declared.modules.Module.TheVariants as modules
+use Rattle.params.specs.declared.old.OldParams.{OldParams}
+use Rattle.params.specs.declared.old.OldParams.TheVariants as old
+use Rattle.params.specs.declared.old.OldVersion.{OldVersion}
+use Rattle.params.specs.declared.old.OldVersion.TheVariants as olds
+use Rattle.params.specs.declared.row.Cell.{Cell}
+use Rattle.params.specs.declared.row.Layout.{Layout}
+use Rattle.params.specs.declared.row.Layout.TheVariants as layouts
 use Rattle.params.specs.declared.settings.Params.{Params}
 use Rattle.params.specs.declared.settings.Params.TheVariants as params
-use Rattle.params.specs.declared.settings.RawPrepare.{RawPrepare}
-use Rattle.params.specs.declared.settings.Temperature.{Temperature}
-use Rattle.params.specs.declared.settings.Orientation.{Orientation}
-use Rattle.params.specs.declared.settings.Crop.{Crop}
-use Rattle.params.specs.declared.settings.Exposure.{Exposure}
-use Rattle.params.specs.declared.settings.ChannelMixer.{ChannelMixer}
-use Rattle.params.specs.declared.settings.ToneCurve.{ToneCurve}
-use Rattle.params.proofs.Faults.{none_at_fault}
+use Rattle.params.proofs.RowAgain.{both, integer_again, row_again, untouched, IsLowPart, IsLow}
+use Rattle.params.proofs.Faults.{none_at_fault, int_le-Decides}
+use Rattle.params.proofs.KeptLemmas.{all_append, nodes_kept, nodes_back}
 
--- ---- numbers
+-- ---- numbers that are kept are low
 
-pub natural_again : (n : ℕ) → n < 2 ^ 63 → integer (natural_data n) ≡ Some (pos n)
-natural_again n h = rw (lt-ltb n (2 ^ 63) h) refl
+-- a cell's range is that of a number of a row
+lower : (c : Cell) (z : ℤ) → negsuc 1048574 ≤ℤ c.low → c.high ≤ℤ pos 1048575 → IsIn c.low c.high z → IsLow z
+lower c z g h k = (omega (arith, ints, g, k.0), omega (arith, ints, h, k.1))
 
-pub integer_again : (z : ℤ) → z ≤ℤ pos 1048575 → integer (integer_data z) ≡ Some z
-integer_again (pos n) h = natural_again n (omega (arith, ints))
-integer_again (negsuc n) h = refl
+part_low : (all : List Part) (c : Cell) (p : Part) → negsuc 1048574 ≤ℤ c.low → c.high ≤ℤ pos 1048575 → AllByRecursion IsKept (cell_entries all c p) → IsLowPart p
+part_low all c (one z) g h k = lower c z g h k.0
+part_low all c (three t) g h k = (lower c t.0 g h k.0, lower c t.1 g h k.1.0, lower c t.2 g h k.1.1.0)
+part_low all c (nine t) g h k =
+    let l = k.1.1.1 in
+    let m = l.1.1.1 in
+    ((lower c t.0.0 g h k.0, lower c t.0.1 g h k.1.0, lower c t.0.2 g h k.1.1.0), (lower c t.1.0 g h l.0, lower c t.1.1 g h l.1.0, lower c t.1.2 g h l.1.1.0), (lower c t.2.0 g h m.0, lower c t.2.1 g h m.1.0, lower c t.2.2 g h m.1.1.0))
+part_low all c (pairs ns) g h k = nodes_kept c.field 0 (negsuc 0) ns k.1
+part_low all c (flag b) g h k = tt
 
--- ---- lists of a length
+parts_low : (all : List Part) (row : List Cell) (ps : List Part) → IsTrue (is_row row) → Fits row ps → AllByRecursion IsKept (cells_entries all row ps) → AllByRecursion IsLowPart ps
+parts_low all [] [] r f k = tt
+parts_low all [] (p ∷ ps) r f k = absurd f
+parts_low all (c ∷ cs) [] r f k = tt
+parts_low all (c ∷ cs) (p ∷ ps) r f k =
+    let new = both _ _ r in
+    let low = both (int_le (negsuc 1048574) c.low) _ new.1 in
+    let high = both (int_le c.high (pos 1048575)) _ low.1 in
+    let split = all_append IsKept (cell_entries all c p) (cells_entries all cs ps) k in
+    (part_low all c p ((int_le-Decides (negsuc 1048574) c.low).0 low.0) ((int_le-Decides c.high (pos 1048575)).0 high.0) split.0, parts_low all cs ps high.1 f.1 split.1)
 
-three_again : (xs : List ℕ) → length xs ≡ 3 → naturals_of (wide_three xs) ≡ xs
+-- ---- each row
+
+-- by cases on the rows, each of which computes
+pub is_row_of : (m : Module) → IsTrue (is_row (row_of m))
+is_row_of modules.RawPrepare = refl
+is_row_of _ = refl
+
+pub is_old_row_of : (o : OldVersion) → IsTrue (is_row (old_row_of o))
+is_old_row_of olds.Exposure1 = refl
+is_old_row_of _ = refl
+
+pub is_mask_row_of : (k : MaskKind) → IsTrue (is_row (mask_row_of k))
+is_mask_row_of masks.Gradient = refl
+is_mask_row_of _ = refl
+
+-- ---- parts of a type fit their row
+
+abbrev has_layout : Layout → Part → Bool
+has_layout layouts.One (one z) = true
+has_layout layouts.Three (three t) = true
+has_layout layouts.Nine (nine t) = true
+has_layout layouts.Pairs (pairs ns) = true
+has_layout layouts.Flag (flag b) = true
+has_layout s p = false
+
+abbrev fits : List Cell → List Part → Bool
+fits [] [] = true
+fits [] (p ∷ ps) = false
+fits (c ∷ cs) [] = false
+fits (c ∷ cs) (p ∷ ps) = has_layout c.layout p && fits cs ps
+
+layout_told : (s : Layout) (p : Part) → has_layout s p ≡ true → HasLayout s p
+layout_told layouts.One (one z) h = tt
+layout_told layouts.Three (three t) h = tt
+layout_told layouts.Nine (nine t) h = tt
+layout_told layouts.Pairs (pairs ns) h = tt
+layout_told layouts.Flag (flag b) h = tt
+layout_told s p h = absurd (true≢false (sym h))
+
+fits_told : (row : List Cell) (ps : List Part) → fits row ps ≡ true → Fits row ps
+fits_told [] [] h = tt
+fits_told [] (p ∷ ps) h = absurd (true≢false (sym h))
+fits_told (c ∷ cs) [] h = absurd (true≢false (sym h))
+fits_told (c ∷ cs) (p ∷ ps) h = let s = both (has_layout c.layout p) (fits cs ps) h in (layout_told c.layout p s.0, fits_told cs ps s.1)
+
+params_fit : (p : Params) → fits (row_of (module_of p)) (parts_of p) ≡ true
+params_fit params.Demosaic = refl
+params_fit _ = refl
+
+old_fit : (p : OldParams) → fits (old_row_of (version_of p)) (old_parts_of p) ≡ true
+old_fit (old.ToneCurve1 nodes) = refl
+old_fit _ = refl
+
+shape_fit : (s : Shape) → fits (mask_row_of (kind_of s)) (shape_parts s) ≡ true
+shape_fit (shapes.Gradient ax ay dx dy slope) = refl
+shape_fit _ = refl
+
+pub parts_fit : (p : Params) → Fits (row_of (module_of p)) (parts_of p)
+parts_fit p = fits_told (row_of (module_of p)) (parts_of p) (params_fit p)
+
+pub old_parts_fit : (p : OldParams) → Fits (old_row_of (version_of p)) (old_parts_of p)
+old_parts_fit p = fits_told (old_row_of (version_of p)) (old_parts_of p) (old_fit p)
+
+pub shape_parts_fit : (s : Shape) → Fits (mask_row_of (kind_of s)) (shape_parts s)
+shape_parts_fit s = fits_told (mask_row_of (kind_of s)) (shape_parts s) (shape_fit s)
+
+-- ---- arrays
+
+three_again : (xs : List ℕ) → length xs ≡ 3 → naturals (wide_three xs) ≡ xs
 three_again [] h = absurd (omega arith)
 three_again (a ∷ []) h = absurd (omega arith)
 three_again (a ∷ b ∷ []) h = absurd (omega arith)
 three_again (a ∷ b ∷ c ∷ []) h = refl
 three_again (a ∷ b ∷ c ∷ d ∷ more) h = absurd (omega arith)
 
-nine_again : (xs : List ℤ) → length xs ≡ 9 → (mixer_of (three_from xs 0, three_from xs 3, three_from xs 6)).rows ≡ xs
+nine_again : (xs : List ℤ) → length xs ≡ 9 → matrix (wide_nine xs) ≡ xs
 nine_again (a ∷ b ∷ c ∷ d ∷ e ∷ f ∷ g ∷ h ∷ i ∷ []) len = refl
 nine_again [] len = absurd (omega arith)
 nine_again (a ∷ []) len = absurd (omega arith)
@@ -61,166 +154,98 @@ nine_again (a ∷ b ∷ c ∷ d ∷ e ∷ f ∷ g ∷ []) len = absurd (omega ar
 nine_again (a ∷ b ∷ c ∷ d ∷ e ∷ f ∷ g ∷ h ∷ []) len = absurd (omega arith)
 nine_again (a ∷ b ∷ c ∷ d ∷ e ∷ f ∷ g ∷ h ∷ i ∷ j ∷ more) len = absurd (omega arith)
 
+-- settings are those of their parts
+settings_again : (p : Params) → IsSized p → params_from (module_of p) (parts_of p) ≡ p
+settings_again (params.RawPrepare p) h = λ i. params.RawPrepare (record { black = three_again p.black h i; white = p.white })
+settings_again (params.Temperature p) h = λ i. params.Temperature (record { mul = three_again p.mul h i })
+settings_again (params.ChannelMixer p) h = λ i. params.ChannelMixer (record { rows = nine_again p.rows h i })
+settings_again (params.ToneCurve p) h = λ i. params.ToneCurve (record { red = nodes_back p.red i; green = nodes_back p.green i; blue = nodes_back p.blue i })
+settings_again _ h = refl
+
+-- a number that is written is read again
+pub natural_again : (n : ℕ) → n ≤ 1048575 → integer (natural_data n) ≡ Some (pos n)
+natural_again n h = integer_again (pos n) (omega (arith, ints))
+
 -- ---- settings
 
--- where all entries are kept, the value is read
-kept_again : {B : Type 0} (es : List Entry) (x y : B) → AllKept es → x ≡ y → if_kept es x ≡ Ok y
-kept_again es x y h e = ap (λ r. unless_fault r x) (none_at_fault es h) ∙ ap Ok e
+pub parts_are_low : (p : Params) → IsWithin p → AllByRecursion IsLowPart (parts_of p)
+parts_are_low p h = parts_low (parts_of p) (row_of (module_of p)) (parts_of p) (is_row_of (module_of p)) (parts_fit p) h.kept
 
-raw_stated : (p : RawPrepare) → IsRawWithin p → raw_form (raw_data p) ≡ Some (stated_raw p)
-unfolding raw_form raw_data
-raw_stated p h =
-    let k = h.1.kept in
-    rw (natural_again (slice_index p.black 0) (omega (arith, ints, k.0.1)), natural_again (slice_index p.black 1) (omega (arith, ints, k.1.0.1)), natural_again (slice_index p.black 2) (omega (arith, ints, k.1.1.0.1)), natural_again p.white (omega (arith, ints, k.1.1.1.0.1))) refl
+newest_again : (p : Params) → IsWithin p → newest_read (module_of p) (params_data p) ≡ Ok p
+newest_again p h =
+    let row = row_of (module_of p) in
+    ap (λ o. or_form o (λ ps. unless_fault (first_fault (row_entries row ps)) (params_from (module_of p) ps))) (row_again [] row (parts_of p) no_members refl (is_row_of (module_of p)) (parts_fit p) (parts_are_low p h))
+    ∙ ap (λ r. unless_fault r (params_from (module_of p) (parts_of p))) (none_at_fault (entries_of p) (record { kept = h.kept }))
+    ∙ ap Ok (settings_again p h.sized)
 
-raw_again : (p : RawPrepare) → IsRawWithin p → raw_read (raw_data p) ≡ Ok p
-raw_again p h =
-    ap (λ o. or_form o (λ s. if_kept (raw_entries s) (raw_of s))) (raw_stated p h)
-    ∙ kept_again (raw_entries (stated_raw p)) _ p h.1 (λ i. record { black = three_again p.black h.0 i; white = p.white })
+-- what is written for settings is read again, in the newest version, as the same settings
+pub params_again : (p : Params) → IsWithin p → params_of (module_of p) (newest_of (module_of p)) (params_data p) ≡ Ok p
+params_again p h =
+    ap (λ b. if b then newest_read (module_of p) (params_data p) else or_form (old_version (module_of p) (newest_of (module_of p))) (λ o. old_read o (params_data p)))
+    ((unsigned_Decides (newest_of (module_of p)) (newest_of (module_of p))).1 refl)
+    ∙ newest_again p h
 
-temperature_stated : (p : Temperature) → IsTemperatureWithin p → temperature_form (temperature_data p) ≡ Some (wide_three p.mul)
-unfolding temperature_form temperature_data
-temperature_stated p h =
-    let k = h.1.kept in
-    rw (natural_again (slice_index p.mul 0) (omega (arith, ints, k.0.1)), natural_again (slice_index p.mul 1) (omega (arith, ints, k.1.0.1)), natural_again (slice_index p.mul 2) (omega (arith, ints, k.1.1.0.1))) refl
+-- ---- masks and blends
 
-temperature_again : (p : Temperature) → IsTemperatureWithin p → temperature_read (temperature_data p) ≡ Ok p
-temperature_again p h =
-    ap (λ o. or_form o (λ mul. if_kept (temperature_entries mul) (temperature_of mul))) (temperature_stated p h)
-    ∙ kept_again (temperature_entries (wide_three p.mul)) _ p h.1 (λ i. record { mul = three_again p.mul h.0 i })
+pub mask_low : (s : Shape) → AllByRecursion IsKept (mask_entries (Some (stated_mask s))) → AllByRecursion IsLowPart (shape_parts s)
+mask_low s h = parts_low (shape_parts s) (mask_row_of (kind_of s)) (shape_parts s) (is_mask_row_of (kind_of s)) (shape_parts_fit s) h
 
-demosaic_again : demosaic_read (object no_members) ≡ Ok tt
-unfolding demosaic_form
-demosaic_again = refl
+-- no field of a mask stands under the key of its kind
+kind_apart : (k : MaskKind) → not (is_one_of shape_key (keys_of (mask_row_of k))) ≡ true
+kind_apart masks.Gradient = refl
+kind_apart _ = refl
 
-orientation_again : (p : Orientation) → orientation_read (orientation_data p) ≡ Ok p
-unfolding orientation_form orientation_data
-orientation_again p = refl
+kind_alone : (k : MaskKind) → only (shape_key ∷ keys_of (mask_row_of k)) (shape_member k) ≡ true
+kind_alone masks.Gradient = refl
+kind_alone _ = refl
 
-crop_stated : (p : Crop) → IsCropWithin p → crop_form (crop_data p) ≡ Some (stated_crop p)
-unfolding crop_form crop_data
-crop_stated p h =
-    let k = h.kept in
-    rw (natural_again p.left (omega (arith, ints, k.0.1)), natural_again p.top (omega (arith, ints, k.1.0.1)), natural_again p.right (omega (arith, ints, k.1.1.0.1)), natural_again p.bottom (omega (arith, ints, k.1.1.1.1.0.1))) refl
+kind_again : (k : MaskKind) → mask_named (name_of_mask k) ≡ Some k
+kind_again masks.Gradient = refl
+kind_again _ = refl
 
-crop_again : (p : Crop) → IsCropWithin p → crop_read (crop_data p) ≡ Ok p
-crop_again p h =
-    ap (λ o. or_form o (λ s. if_kept (crop_entries s) (crop_of s))) (crop_stated p h) ∙ kept_again (crop_entries (stated_crop p)) _ p h refl
+shape_back : (s : Shape) → shape_from (kind_of s) (shape_parts s) ≡ s
+shape_back (shapes.Gradient ax ay dx dy slope) = refl
+shape_back _ = refl
 
-exposure_stated : (p : Exposure) → IsExposureWithin p → exposure_form (exposure_data p) ≡ Some (stated_exposure p)
-unfolding exposure_form exposure_data
-exposure_stated p h =
-    let k = h.kept in
-    rw (integer_again p.black (omega (arith, ints, k.0.1)), natural_again p.gain (omega (arith, ints, k.1.0.1))) refl
+member_there : (k : MaskKind) → get_member shape_key (shape_member k) ≡ Some (string (name_of_mask k))
+member_there masks.Gradient = refl
+member_there _ = refl
 
-exposure_again : (p : Exposure) → IsExposureWithin p → exposure_read (exposure_data p) ≡ Ok p
-exposure_again p h =
-    ap (λ o. or_form o (λ s. if_kept (exposure_entries s) (exposure_of s))) (exposure_stated p h) ∙ kept_again (exposure_entries (stated_exposure p)) _ p h refl
+kind_stays : (s : Shape) → get_member shape_key (cells_members (mask_row_of (kind_of s)) (shape_parts s) (shape_member (kind_of s))) ≡ Some (string (name_of_mask (kind_of s)))
+kind_stays s = untouched shape_key (mask_row_of (kind_of s)) (shape_parts s) (shape_member (kind_of s)) (kind_apart (kind_of s)) ∙ member_there (kind_of s)
 
--- three entries of a row are read again
-row_again : (rows : List ℤ) (i : ℕ) → slice_index_or rows i (pos 0) ≤ℤ pos 32768 → slice_index_or rows (i + 1) (pos 0) ≤ℤ pos 32768 → slice_index_or rows (i + 2) (pos 0) ≤ℤ pos 32768
-    → three_integers (row_data rows i) ≡ Some (three_from rows i)
-row_again rows i f g h =
-    rw (integer_again (slice_index_or rows i (pos 0)) (omega (arith, ints)), integer_again (slice_index_or rows (i + 1) (pos 0)) (omega (arith, ints)), integer_again (slice_index_or rows (i + 2) (pos 0)) (omega (arith, ints))) refl
+mask_stated : (s : Shape) → AllByRecursion IsKept (mask_entries (Some (stated_mask s))) → mask_form (shape_data s) ≡ Some (stated_mask s)
+mask_stated s h =
+    let parts = row_again (shape_key ∷ []) (mask_row_of (kind_of s)) (shape_parts s) (shape_member (kind_of s)) (kind_alone (kind_of s)) (is_mask_row_of (kind_of s)) (shape_parts_fit s) (mask_low s h) in
+    rw (kind_stays s) (rw (kind_again (kind_of s)) (rw parts refl))
 
-mixer_stated : (p : ChannelMixer) → IsMixerWithin p → mixer_form (mixer_data p) ≡ Some (stated_mixer p)
-unfolding mixer_form mixer_data
-mixer_stated p h =
-    let k = h.1.kept in
-    let l = k.1.1.1 in
-    let m = l.1.1.1 in
-    rw (row_again p.rows 0 k.0.1 k.1.0.1 k.1.1.0.1, row_again p.rows 3 l.0.1 l.1.0.1 l.1.1.0.1, row_again p.rows 6 m.0.1 m.1.0.1 m.1.1.0.1) refl
-
-mixer_again : (p : ChannelMixer) → IsMixerWithin p → mixer_read (mixer_data p) ≡ Ok p
-mixer_again p h =
-    ap (λ o. or_form o (λ rows. if_kept (mixer_entries rows) (mixer_of rows))) (mixer_stated p h)
-    ∙ kept_again (mixer_entries (stated_mixer p)) _ p h.1 (λ i. record { rows = nine_again p.rows h.0 i })
-
--- ---- curves
-
-pairs_again : (field : Field) (at : ℕ) (before : ℤ) (nodes : List (ℕ × ℕ)) → AllByRecursion IsKept (nodes_entries field at before (wide_nodes nodes)) → pairs_form (nodes_data nodes) ≡ Some (wide_nodes nodes)
-pairs_again field at before [] h = refl
-pairs_again field at before (node ∷ nodes) h =
-    let e = pairs_again field (at + 1) (pos node.0) nodes h.1.1.1 in
-    rw (natural_again node.0 (omega (arith, ints, h.0.1)), natural_again node.1 (omega (arith, ints, h.1.0.1)), e) refl
-
-curve_stated : (p : ToneCurve) → IsCurveWithin p → curve_form (curve_data p) ≡ Some (wide_nodes p.nodes)
-unfolding curve_form curve_data
-curve_stated p h = pairs_again Nodes 0 (negsuc 0) p.nodes h.kept.1
-
-nodes_again : (nodes : List (ℕ × ℕ)) → nodes_of (wide_nodes nodes) ≡ nodes
-nodes_again [] = refl
-nodes_again (node ∷ nodes) = ap (λ l. node ∷ l) (nodes_again nodes)
-
-curve_again : (p : ToneCurve) → IsCurveWithin p → curve_read (curve_data p) ≡ Ok p
-curve_again p h =
-    ap (λ o. or_form o (λ nodes. if_kept (curve_entries Nodes nodes) (curve_of nodes))) (curve_stated p h)
-    ∙ kept_again (curve_entries Nodes (wide_nodes p.nodes)) _ p h (λ i. record { nodes = nodes_again p.nodes i })
-
--- ---- all settings
-
--- what is written for settings is read again as the same settings
-pub params_again : (p : Params) → IsWithin p → params_of (module_of p) (params_data p) ≡ Ok p
-params_again (params.RawPrepare p) h = ap (read_as params.RawPrepare) (raw_again p h)
-params_again (params.Temperature p) h = ap (read_as params.Temperature) (temperature_again p h)
-params_again params.Demosaic h = ap (read_as (λ t. params.Demosaic)) demosaic_again
-params_again (params.Orientation p) h = ap (read_as params.Orientation) (orientation_again p)
-params_again (params.Crop p) h = ap (read_as params.Crop) (crop_again p h)
-params_again (params.Exposure p) h = ap (read_as params.Exposure) (exposure_again p h)
-params_again (params.ChannelMixer p) h = ap (read_as params.ChannelMixer) (mixer_again p h)
-params_again (params.ToneCurve p) h = ap (read_as params.ToneCurve) (curve_again p h)
-
--- ---- blends and masks
-
-shape_stated : (s : Shape) → IsShapeWithin s → shape_form (shape_data s) ≡ Some (stated_shape s)
-unfolding shape_form gradient_form ellipse_form shape_data
-shape_stated (shape.Gradient ax ay dx dy slope) h =
-    let k = h.kept in
-    rw (natural_again ax (omega (arith, ints, k.0.1)), natural_again ay (omega (arith, ints, k.1.0.1)), integer_again dx (omega (arith, ints, k.1.1.0.1)), integer_again dy (omega (arith, ints, k.1.1.1.0.1)), natural_again slope (omega (arith, ints, k.1.1.1.1.1.0.1))) refl
-shape_stated (shape.Ellipse cx cy ux uy a b feather) h =
-    let k = h.kept in
-    let l = k.1.1.1.1.1 in
-    rw (natural_again cx (omega (arith, ints, k.0.1)), natural_again cy (omega (arith, ints, k.1.0.1)), integer_again ux (omega (arith, ints, k.1.1.0.1)), integer_again uy (omega (arith, ints, k.1.1.1.0.1)), natural_again a (omega (arith, ints, l.0.1)), natural_again b (omega (arith, ints, l.1.0.1)), natural_again feather (omega (arith, ints, l.1.1.0.1))) refl
-
-not_null : (s : Shape) → is_some (as_null (shape_data s)) ≡ false
-unfolding shape_data
-not_null (shape.Gradient ax ay dx dy slope) = refl
-not_null (shape.Ellipse cx cy ux uy a b feather) = refl
-
-mask_stated : (m : Option Shape) → AllKept (mask_entries (option_map stated_shape m)) → null_or shape_form (mask_data m) ≡ Some (option_map stated_shape m)
-mask_stated None h = refl
-mask_stated (Some s) h = rw (not_null s) (ap (option_map Some) (shape_stated s h))
+masks_stated : (m : Option Shape) → AllByRecursion IsKept (mask_entries (option_map stated_mask m)) → null_or mask_form (mask_data m) ≡ Some (option_map stated_mask m)
+masks_stated None h = refl
+masks_stated (Some s) h = ap (option_map Some) (mask_stated s h)
 
 mode_again : (m : Mode) → mode_named (name_of_mode m) ≡ Some m
 mode_again modes.Normal = refl
-mode_again modes.Multiply = refl
-mode_again modes.Screen = refl
-mode_again modes.Lighten = refl
-mode_again modes.Darken = refl
-mode_again modes.Add = refl
-mode_again modes.Subtract = refl
-mode_again modes.Difference = refl
-mode_again modes.Average = refl
+mode_again _ = refl
+
+pub blend_low : (b : Blend) → IsBlendWithin b → AllByRecursion IsLowPart (natural b.opacity ∷ [])
+blend_low b h = parts_low (natural b.opacity ∷ []) blend_row (natural b.opacity ∷ []) refl (tt, tt) (all_append IsKept (row_entries blend_row (natural b.opacity ∷ [])) (mask_entries (option_map stated_mask b.mask)) h.kept).0
 
 blend_stated : (b : Blend) → IsBlendWithin b → blend_form (blend_value_data b) ≡ Some (stated_blend b)
-unfolding blend_form blend_value_data
 blend_stated b h =
-    let k = h.kept in
-    rw (natural_again b.opacity (omega (arith, ints, k.0.1)), mode_again b.mode, mask_stated b.mask (record { kept = k.1 })) refl
+    let ms = blend_members (mask_data b.mask) b.mode in
+    let parts = natural b.opacity ∷ [] in
+    let row = row_again blend_keys blend_row parts ms refl refl (tt, tt) (blend_low b h) in
+    let shape = masks_stated b.mask (all_append IsKept (row_entries blend_row parts) (mask_entries (option_map stated_mask b.mask)) h.kept).1 in
+    rw row (rw (mode_again b.mode) (rw shape refl))
 
-mask_back : (m : Option Shape) → option_map shape_of (option_map stated_shape m) ≡ m
-mask_back None = refl
-mask_back (Some (shape.Gradient ax ay dx dy slope)) = refl
-mask_back (Some (shape.Ellipse cx cy ux uy a b feather)) = refl
-
-object_blend : (b : Blend) → is_some (as_null (blend_value_data b)) ≡ false
-unfolding blend_value_data
-object_blend b = refl
+masks_back : (m : Option Shape) → option_map mask_from (option_map stated_mask m) ≡ m
+masks_back None = refl
+masks_back (Some s) = ap Some (shape_back s)
 
 -- what is written for a blend, or for none, is read again as the same
 pub blend_again : (o : Option Blend) → IfSome o IsBlendWithin → blend_of (blend_data o) ≡ Ok o
 blend_again None h = refl
 blend_again (Some b) h =
-    rw (object_blend b) (
     ap (λ o. or_form (option_map Some o) blend_kept) (blend_stated b h)
-    ∙ kept_again (blend_entries (stated_blend b)) _ (Some b) h (λ i. Some (record { opacity = b.opacity; mode = b.mode; mask = mask_back b.mask i })))
+    ∙ ap (λ r. unless_fault r (Some (blend_from (stated_blend b)))) (none_at_fault (blend_entries (stated_blend b)) (record { kept = h.kept }))
+    ∙ (λ i. Ok (Some (record { opacity = b.opacity; mode = b.mode; mask = masks_back b.mask i })))

@@ -5,11 +5,10 @@ use Rattle.std.specs.List.Sorted.{IsStrictlyIncreasing}
 use Rattle.std.proofs.lemmas.Int.{ints}
 use Rattle.std.proofs.lemmas.List.{length-map}
 use Rattle.params.specs.Rules.{IsKept}
-use Rattle.params.specs.Ranges.{wide_node, wide_nodes, nodes_entries, IsCurveWithin}
+use Rattle.params.specs.Seen.{wide_node, wide_nodes}
+use Rattle.params.specs.Stated.{nodes_entries, curve_entries}
 use Rattle.params.specs.Curve.{IsCurve, IsValue}
 use Rattle.params.specs.declared.fault.Field.{Field}
-use Rattle.params.specs.declared.fault.Field.TheVariants.{Nodes}
-use Rattle.params.specs.declared.settings.ToneCurve.{ToneCurve}
 
 values : (field : Field) (at : ℕ) (before : ℤ) (nodes : List (ℕ × ℕ)) → AllByRecursion IsKept (nodes_entries field at before (wide_nodes nodes)) → AllByRecursion IsValue nodes
 values field at before [] h = tt
@@ -24,11 +23,11 @@ rises field at before (a ∷ b ∷ nodes) h (suc k) small =
     let next : suc k + 1 ≡ suc (k + 1) = omega arith in
     rw next (rises field (at + 1) (pos a.0) (b ∷ nodes) h.1.1.1 k (omega arith))
 
--- a curve within its ranges has 2 to 20 nodes, values up to TOP, and inputs that rise
-pub curve_is : (p : ToneCurve) → IsCurveWithin p → IsCurve p.nodes
-curve_is p h = record {
-  least = omega (arith, ints, h.kept.0.0, length-map p.nodes wide_node);
-  most = omega (arith, ints, h.kept.0.1, length-map p.nodes wide_node);
-  values = values Nodes 0 (negsuc 0) p.nodes h.kept.1;
-  rises = rises Nodes 0 (negsuc 0) p.nodes h.kept.1;
+-- nodes whose entries are kept, whichever field they stand under, are 2 to 20, have values up to TOP, and inputs that rise
+pub curve_is : (field : Field) (nodes : List (ℕ × ℕ)) → AllByRecursion IsKept (curve_entries field (wide_nodes nodes)) → IsCurve nodes
+curve_is field nodes h = record {
+  least = omega (arith, ints, h.0.0, length-map nodes wide_node);
+  most = omega (arith, ints, h.0.1, length-map nodes wide_node);
+  values = values field 0 (negsuc 0) nodes h.1;
+  rises = rises field 0 (negsuc 0) nodes h.1;
 }

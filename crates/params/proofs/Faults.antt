@@ -7,7 +7,8 @@ use Rattle.std.proofs.lemmas.Bool.Decides.{Decides-int_eq, Decides-and, Decides-
 use Rattle.std.proofs.lemmas.Int.{ints}
 use Rattle.std.proofs.lemmas.List.{at_drop_more, at_drop_all, drop_more}
 use Rattle.params.specs.Rules.{IsKept, first_fault, held, or_else, keeps, Keeps, AllKept, fault_at}
-use Rattle.params.specs.Ranges.{node_entries, nodes_entries, count_entry, curve_entries, check_blend_of, IsBlendFit, blends, blend_fault, blend_entries, stated_blend}
+use Rattle.params.specs.Ranges.{IsBlendFit, IsBlendWithin, blends, blend_fault, check_blend_of, stated_blend}
+use Rattle.params.specs.Stated.{node_entries, nodes_entries, count_entry, curve_entries, blend_entries}
 use Rattle.params.specs.declared.blending.Blend.{Blend}
 use Rattle.params.specs.declared.modules.Module.{Module}
 use Rattle.params.specs.declared.rules.Entry.{Entry}
@@ -40,9 +41,17 @@ unfolding first_fault
 first_fault-append [] fs = refl
 first_fault-append (e ∷ es) fs = ap (or_else (held e)) (first_fault-append es fs) ∙ sym (or_else_assoc (held e) (first_fault es) (first_fault fs))
 
+-- a fault of the first list is the fault of both
+pub faults_here : (es fs : List Entry) (f : ParamFault) → first_fault es ≡ Err f → first_fault (es ++ fs) ≡ Err f
+faults_here es fs f e = first_fault-append es fs ∙ ap (λ r. or_else r (first_fault fs)) e
+
+-- a first list without a fault leaves it to the second
+pub faults_behind : (es fs : List Entry) → first_fault es ≡ Ok tt → first_fault (es ++ fs) ≡ first_fault fs
+faults_behind es fs e = first_fault-append es fs ∙ ap (λ r. or_else r (first_fault fs)) e
+
 -- ---- no fault, and all kept
 
-int_le-Decides : (a b : ℤ) → Decides (int_le a b) (a ≤ℤ b)
+pub int_le-Decides : (a b : ℤ) → Decides (int_le a b) (a ≤ℤ b)
 int_le-Decides a b = (λ e. grind (arith, ints), λ h. grind (arith, ints))
 
 int_lt-Decides : (a b : ℤ) → Decides (int_lt a b) (a <ℤ b)
@@ -87,17 +96,14 @@ pub within_tells : (es : List Entry) (r : Result ⊤ ParamFault) → r ≡ first
 within_tells es (Ok t) e = (λ _. all_kept es (sym e), λ _. refl)
 within_tells es (Err f) e = (λ h. cc, λ h. cc (none_at_fault es h))
 
-pub within_sized : {X : Type 0} (xs : List X) (n : ℕ) (es : List Entry) (r : Result ⊤ ParamFault) → length xs ≡ n → r ≡ first_fault es → IsOk r ↔ ((length xs ≡ n) × AllKept es)
-within_sized xs n es r len e = let t = within_tells es r e in (λ h. (len, t.0 h), λ h. t.1 h.1)
-
-fit_at : (b : Bool) (f : ParamFault) (es : List Entry) (r : Result ⊤ ParamFault) → r ≡ (if b then first_fault es else Err f) → IsOk r ↔ (IsTrue b × AllKept es)
-fit_at true f es r e = let t = within_tells es r e in (λ h. (refl, t.0 h), λ h. t.1 h.1)
-fit_at false f es r e = (λ h. cc, λ h. cc (h.0))
+fit_at : (b : Bool) (f : ParamFault) (blend : Blend) (r : Result ⊤ ParamFault) → r ≡ (if b then first_fault (blend_entries (stated_blend blend)) else Err f) → IsOk r ↔ (IsTrue b × IsBlendWithin blend)
+fit_at true f blend r e = let t = within_tells (blend_entries (stated_blend blend)) r e in (λ h. (refl, record { kept = (t.0 h).kept }), λ h. t.1 (record { kept = h.1.kept }))
+fit_at false f blend r e = (λ h. cc, λ h. cc (h.0))
 
 -- a blend is fit exactly where its check has no fault
 pub fit_tells : (m : Module) (blend : Option Blend) (r : Result ⊤ ParamFault) → r ≡ check_blend_of m blend → IsOk r ↔ IsBlendFit m blend
 fit_tells m None r e = (λ h. tt, λ h. rw e refl)
-fit_tells m (Some b) r e = fit_at (blends m) blend_fault (blend_entries (stated_blend b)) r e
+fit_tells m (Some b) r e = fit_at (blends m) blend_fault b r e
 
 -- ---- nodes
 

@@ -1,5 +1,5 @@
 -- Parts of a JSON value, step by step.
-use Rattle.std.proofs.Common.{◌≡◌, ℕ, ◌+◌, ◌<◌, Bool, ◌||◌, List, length, get_or, drop, map, bytes_eq, Bor, String, Global, string_bytes, true, [], ◌∷◌, ◌&&◌, Some, None, refl, ap, ◌∙◌, arith}
+use Rattle.std.proofs.Common.{◌≡◌, ℕ, ◌+◌, ◌<◌, Bool, ◌||◌, List, length, get_or, drop, map, bytes_eq, Bor, String, Global, string_bytes, true, false, [], ◌∷◌, ◌++◌, ◌&&◌, Some, None, refl, ap, ◌∙◌, arith}
 use Rattle.std.proofs.lemmas.List.{drop_more}
 use Rattle.std.specs.Map.{keys_of}
 use Rattle.serde_json.specs.View.{view, items_view, members_view}
@@ -48,3 +48,14 @@ just_three (a ∷ []) d h = absurd (omega arith)
 just_three (a ∷ b ∷ []) d h = absurd (omega arith)
 just_three (a ∷ b ∷ c ∷ []) d h = refl
 just_three (a ∷ b ∷ c ∷ e ∷ more) d h = absurd (omega arith)
+
+-- ---- one of two lists
+
+or_assoc : (a b c : Bool) → (a || (b || c)) ≡ ((a || b) || c)
+or_assoc true b c = refl
+or_assoc false b c = refl
+
+-- a key of two lists is one of the first or of the second
+pub one_of_either : (key : List ℕ) (xs ys : List (List ℕ)) → is_one_of key (xs ++ ys) ≡ (is_one_of key xs || is_one_of key ys)
+one_of_either key [] ys = refl
+one_of_either key (x ∷ xs) ys = ap (λ b. bytes_eq key x || b) (one_of_either key xs ys) ∙ or_assoc (bytes_eq key x) (is_one_of key xs) (is_one_of key ys)

@@ -1,8 +1,14 @@
 pub mod Faults
 pub mod FormLemmas
+pub mod NameLemmas
+pub mod NodesLemmas
 pub mod ReadLemmas
-pub mod AgainLemmas
+pub mod RowLemmas
+pub mod RowAgain
+pub mod KeptLemmas
+pub mod OldLemmas
 pub mod WithinLemmas
+pub mod AgainLemmas
 pub mod TextLemmas
-pub mod DepthLemmas
 pub mod CurveLemmas
+pub mod SameLemmas

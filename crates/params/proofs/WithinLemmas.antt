@@ -1,159 +1,360 @@
--- What is read is within the ranges.
-use Rattle.std.proofs.Common.{◌≡◌, ℕ, ◌+◌, ℤ, pos, negsuc, ◌≤ℤ◌, List, [], ◌∷◌, Option, Some, None, option_map, IfSome, IfOk, Result, Ok, Err, refl, sym, subst, arith}
-use Rattle.std.specs.Bool.{⊤}
+-- What is read is within the ranges, and what the checks say.
+use Rattle.std.proofs.Common.{◌≡◌, ℕ, ℤ, pos, negsuc, ◌≤ℤ◌, List, [], ◌∷◌, ◌++◌, Option, Some, None, is_some, IfSome, IfOk, IsOk, ◌↔◌, Result, Ok, Err, Bool, true, false, nat_eq, refl, sym, ap, ◌∙◌, subst, arith}
+use Rattle.std.specs.Bool.{⊤, if◌then◌else◌}
+use Rattle.std.specs.Prelude.{codes}
 use Rattle.std.specs.List.{AllByRecursion}
+use Rattle.std.specs.Option.{option_and_then, option_map}
 use Rattle.std.proofs.lemmas.Int.{ints}
 use Rattle.serde_json.specs.Data.{Data}
-use Rattle.params.specs.Form.{natural_of}
-use Rattle.params.specs.Rules.{first_fault, AllKept, IsKept}
-use Rattle.params.specs.Ranges.{Triple, stated_raw, stated_crop, stated_exposure, stated_shape, stated_blend, wide_three, wide_nodes, raw_entries, temperature_entries, crop_entries, exposure_entries, mixer_entries, nodes_entries, curve_entries, mask_entries, blend_entries, IsRawWithin, IsTemperatureWithin, IsCropWithin, IsExposureWithin, IsMixerWithin, IsCurveWithin, IsWithin, IsBlendWithin, module_of}
-use Rattle.params.specs.Stated.{raw_form, temperature_form, crop_form, exposure_form, mixer_form, curve_form, blend_form, null_or}
-use Rattle.params.specs.Read.{raw_of, naturals_of, temperature_of, crop_of, exposure_of, mixer_of, nodes_of, curve_of, shape_of, blend_value, or_form, unless_fault, if_kept, raw_read, temperature_read, demosaic_read, orientation_read, crop_read, exposure_read, mixer_read, curve_read, read_as, params_of, blend_kept, blend_of, IsReading}
+use Rattle.serde_json.specs.Find.{get, as_array, as_bool, as_null}
+use Rattle.params.specs.Form.{natural_of, only_if, integer, three_integers, has_only, text_at, ◌>>=◌}
+use Rattle.params.specs.Names.{mode_named}
+use Rattle.params.specs.Rules.{first_fault, IsKept}
+use Rattle.params.specs.Read.{IsReading, or_form, unless_fault, form_read, row_read, newest_read, old_read, params_of, blend_kept, blend_of}
+use Rattle.params.specs.Seen.{wide_nodes}
+use Rattle.params.specs.Stated.{StatedMask, StatedBlend, part_form, cell_form, parts_form, row_form, key_of, keys_of, nine_form, pairs_form, nodes_entries, curve_entries, row_entries, mask_entries, blend_entries, mask_named, mask_form, blend_form, null_or, shape_key, blend_keys, Fits, HasLayout}
+use Rattle.params.specs.Table.{Part, one, three, nine, pairs, flag, Triple, row_of, old_row_of, blend_row, mask_row_of}
+use Rattle.params.specs.Ranges.{IsRowKept, IsWithin, IsOldWithin, IsMaskKept, IsBlendKept, IsBlendWithin, IsSized, AreInputs, module_of, newest_of, old_version, version_of, kind_of, entries_of, old_entries_of, parts_of, old_parts_of, shape_parts, stated_mask, stated_blend, params_from, old_from, shape_from, mask_from, blend_from, migrated, check_of, check_old_of, nodes_of, natural, natural_at, naturals, wide_three}
 use Rattle.params.specs.declared.blending.Blend.{Blend}
 use Rattle.params.specs.declared.fault.Field.{Field}
-use Rattle.params.specs.declared.fault.Field.TheVariants.{Nodes}
+use Rattle.params.specs.declared.fault.Field.TheVariants.{Nodes, Red, Green, Blue}
 use Rattle.params.specs.declared.fault.ParamFault.{ParamFault}
 use Rattle.params.specs.declared.fault.JsonEnd.{JsonEnd}
+use Rattle.params.specs.declared.masks.MaskKind.{MaskKind}
+use Rattle.params.specs.declared.masks.MaskKind.TheVariants as masks
 use Rattle.params.specs.declared.modules.Module.{Module}
 use Rattle.params.specs.declared.modules.Module.TheVariants as modules
+use Rattle.params.specs.declared.old.OldParams.{OldParams}
+use Rattle.params.specs.declared.old.OldVersion.{OldVersion}
+use Rattle.params.specs.declared.old.OldVersion.TheVariants as olds
+use Rattle.params.specs.declared.row.Cell.{Cell}
+use Rattle.params.specs.declared.row.Layout.{Layout}
+use Rattle.params.specs.declared.row.Layout.TheVariants as layouts
 use Rattle.params.specs.declared.rules.Entry.{Entry}
 use Rattle.params.specs.declared.settings.Params.{Params}
-use Rattle.params.specs.declared.settings.Params.TheVariants as params
-use Rattle.params.specs.declared.stated.StatedRaw.{StatedRaw}
-use Rattle.params.specs.declared.stated.StatedCrop.{StatedCrop}
-use Rattle.params.specs.declared.stated.StatedExposure.{StatedExposure}
-use Rattle.params.specs.declared.stated.StatedShape.{StatedShape}
-use Rattle.params.specs.declared.stated.StatedShape.TheVariants as stated
-use Rattle.params.specs.declared.stated.StatedBlend.{StatedBlend}
-use Rattle.params.proofs.Faults.{all_kept}
+use Rattle.params.proofs.Faults.{all_kept, none_at_fault}
+use Rattle.params.proofs.KeptLemmas.{all_append, nodes_kept}
+use Rattle.params.proofs.OldLemmas.{module_of_old, migrated_module, migrated_within}
+use Rattle.params.proofs.ReadLemmas.{some_of}
 
--- ---- numbers within their ranges are stated again
+-- the answer is none exactly where the settings are within their ranges
+pub within_tells : (p : Params) (r : Result ⊤ ParamFault) → IsSized p → r ≡ check_of p → IsOk r ↔ IsWithin p
+within_tells p (Ok t) sized e = (λ _. record { sized = sized; kept = (all_kept (entries_of p) (sym e)).kept }, λ _. refl)
+within_tells p (Err f) sized e = (λ h. cc, λ w. cc (none_at_fault (entries_of p) (record { kept = w.kept })))
+
+pub old_tells : (p : OldParams) (r : Result ⊤ ParamFault) → r ≡ check_old_of p → IsOk r ↔ IsOldWithin p
+old_tells p (Ok t) e = (λ _. record { kept = (all_kept (old_entries_of p) (sym e)).kept }, λ _. refl)
+old_tells p (Err f) e = (λ h. cc, λ w. cc (none_at_fault (old_entries_of p) (record { kept = w.kept })))
+
+-- settings that have no fault are within their ranges
+pub fault_free : (p : Params) → IsSized p → check_of p ≡ Ok tt → IsWithin p
+fault_free p sized e = record { sized = sized; kept = (all_kept (entries_of p) e).kept }
+
+-- ---- what is stated fits the row
+
+one_fits : (o : Option ℤ) (p : Part) → option_map one o ≡ Some p → HasLayout layouts.One p
+one_fits None p e = cc
+one_fits (Some x) p e = let same : one x ≡ p = cc in subst (HasLayout layouts.One) same tt
+
+three_fits : (o : Option Triple) (p : Part) → option_map three o ≡ Some p → HasLayout layouts.Three p
+three_fits None p e = cc
+three_fits (Some x) p e = let same : three x ≡ p = cc in subst (HasLayout layouts.Three) same tt
+
+nine_fits : (o : Option (Triple × Triple × Triple)) (p : Part) → option_map nine o ≡ Some p → HasLayout layouts.Nine p
+nine_fits None p e = cc
+nine_fits (Some x) p e = let same : nine x ≡ p = cc in subst (HasLayout layouts.Nine) same tt
+
+pairs_fits : (o : Option (List (ℤ × ℤ))) (p : Part) → option_map pairs o ≡ Some p → HasLayout layouts.Pairs p
+pairs_fits None p e = cc
+pairs_fits (Some x) p e = let same : pairs x ≡ p = cc in subst (HasLayout layouts.Pairs) same tt
+
+flag_fits : (o : Option Bool) (p : Part) → option_map flag o ≡ Some p → HasLayout layouts.Flag p
+flag_fits None p e = cc
+flag_fits (Some x) p e = let same : flag x ≡ p = cc in subst (HasLayout layouts.Flag) same tt
+
+part_fits : (s : Layout) (d : Data) (p : Part) → part_form s d ≡ Some p → HasLayout s p
+unfolding part_form
+part_fits layouts.One d p e = one_fits (integer d) p e
+part_fits layouts.Three d p e = three_fits (three_integers d) p e
+part_fits layouts.Nine d p e = nine_fits (nine_form d) p e
+part_fits layouts.Pairs d p e = pairs_fits (as_array d >>= pairs_form) p e
+part_fits layouts.Flag d p e = flag_fits (as_bool d) p e
+
+looked_fits : (s : Layout) (o : Option Data) (p : Part) → option_and_then (part_form s) o ≡ Some p → HasLayout s p
+looked_fits s None p e = cc
+looked_fits s (Some d) p e = part_fits s d p e
+
+more_fits : (c : Cell) (cs : List Cell) (o : Option Part) (rest : Option (List Part)) (ps : List Part) → ((p : Part) → o ≡ Some p → HasLayout c.layout p) → ((qs : List Part) → rest ≡ Some qs → Fits cs qs)
+    → option_and_then (λ p. option_map (λ qs. p ∷ qs) rest) o ≡ Some ps → Fits (c ∷ cs) ps
+more_fits c cs None rest ps f g e = cc
+more_fits c cs (Some p) None ps f g e = cc
+more_fits c cs (Some p) (Some qs) ps f g e = let same : (p ∷ qs) ≡ ps = cc in subst (Fits (c ∷ cs)) same (f p refl, g qs refl)
+
+parts_fit : (row : List Cell) (d : Data) (ps : List Part) → parts_form row d ≡ Some ps → Fits row ps
+parts_fit [] d ps e = let same : [] ≡ ps = cc in subst (Fits []) same tt
+parts_fit (c ∷ cs) d ps e = more_fits c cs (cell_form c d) (parts_form cs d) ps (looked_fits c.layout (get (key_of c) d)) (parts_fit cs d) e
+
+only_fits : (row : List Cell) (b : Bool) (o : Option (List Part)) (ps : List Part) → ((qs : List Part) → o ≡ Some qs → Fits row qs) → (if b then o else None) ≡ Some ps → Fits row ps
+only_fits row true o ps f e = f ps e
+only_fits row false o ps f e = cc
+
+-- an object of a row's form states parts that fit it
+pub row_fits : (beside : List (List ℕ)) (row : List Cell) (d : Data) (ps : List Part) → row_form beside row d ≡ Some ps → Fits row ps
+row_fits beside row d ps e = only_fits row (has_only (beside ++ keys_of row) d) (parts_form row d) ps (parts_fit row d) e
+
+-- ---- each module: parts that are kept are those of their settings
 
 back : (z : ℤ) → pos 0 ≤ℤ z → pos (natural_of z) ≡ z
 back (pos n) h = refl
 back (negsuc n) h = absurd (omega (arith, ints))
 
-triple_back : (t : Triple) → pos 0 ≤ℤ t.0 → pos 0 ≤ℤ t.1 → pos 0 ≤ℤ t.2 → wide_three (naturals_of t) ≡ t
-triple_back t f g h = λ i. (back t.0 f i, back t.1 g i, back t.2 h i)
-
-raw_within : (s : StatedRaw) → AllKept (raw_entries s) → IsRawWithin (raw_of s)
-raw_within s h =
-    let k = h.kept in
-    let black = triple_back s.black k.0.0 k.1.0.0 k.1.1.0.0 in
-    let white = back s.white (omega (arith, ints, k.1.1.1.0.0)) in
-    let same : stated_raw (raw_of s) ≡ s = λ i. record { black = black i; white = white i } in
-    (refl, subst (λ t. AllKept (raw_entries t)) (sym same) h)
-
-temperature_within : (mul : Triple) → AllKept (temperature_entries mul) → IsTemperatureWithin (temperature_of mul)
-temperature_within mul h =
-    let k = h.kept in
-    (refl, subst (λ t. AllKept (temperature_entries t)) (sym (triple_back mul k.0.0 k.1.0.0 k.1.1.0.0)) h)
-
-crop_within : (s : StatedCrop) → AllKept (crop_entries s) → IsCropWithin (crop_of s)
-crop_within s h =
-    let k = h.kept in
-    let left = back s.left k.0.0 in
-    let top = back s.top k.1.0.0 in
-    let right = back s.right (omega (arith, ints, k.1.1.0.0)) in
-    let bottom = back s.bottom (omega (arith, ints, k.1.1.1.1.0.0)) in
-    let same : stated_crop (crop_of s) ≡ s = λ i. record { left = left i; top = top i; right = right i; bottom = bottom i } in
-    subst (λ t. AllKept (crop_entries t)) (sym same) h
-
-exposure_within : (s : StatedExposure) → AllKept (exposure_entries s) → IsExposureWithin (exposure_of s)
-exposure_within s h =
-    let gain = back s.gain h.kept.1.0.0 in
-    let same : stated_exposure (exposure_of s) ≡ s = λ i. record { black = s.black; gain = gain i } in
-    subst (λ t. AllKept (exposure_entries t)) (sym same) h
-
-mixer_within : (rows : Triple × Triple × Triple) → AllKept (mixer_entries rows) → IsMixerWithin (mixer_of rows)
-mixer_within rows h = (refl, h)
-
-nodes_back : (field : Field) (at : ℕ) (before : ℤ) (nodes : List (ℤ × ℤ)) → AllByRecursion IsKept (nodes_entries field at before nodes) → wide_nodes (nodes_of nodes) ≡ nodes
-nodes_back field at before [] h = refl
-nodes_back field at before (node ∷ nodes) h =
-    let x = back node.0 h.0.0 in
-    let y = back node.1 h.1.0.0 in
-    let rest = nodes_back field (at + 1) node.0 nodes h.1.1.1 in
+nodes_back : (ns : List (ℤ × ℤ)) → AreInputs ns → wide_nodes (nodes_of ns) ≡ ns
+nodes_back [] h = refl
+nodes_back (n ∷ ns) h =
+    let x = back n.0 h.0.0.0 in
+    let y = back n.1 h.0.1.0 in
+    let rest = nodes_back ns h.1 in
     λ i. (x i, y i) ∷ rest i
 
-curve_within : (nodes : List (ℤ × ℤ)) → AllKept (curve_entries Nodes nodes) → IsCurveWithin (curve_of nodes)
-curve_within nodes h = subst (λ ns. AllKept (curve_entries Nodes ns)) (sym (nodes_back Nodes 0 (negsuc 0) nodes h.kept.1)) h
+pub record IsBack (m : Module) (ps : List Part) (p : Params) : Type 0 where
+  pub parts : parts_of p ≡ ps
+  pub sized : IsSized p
+  pub is : module_of p ≡ m
 
-mask_back : (m : Option StatedShape) → AllKept (mask_entries m) → option_map stated_shape (option_map shape_of m) ≡ m
-mask_back None h = refl
-mask_back (Some (stated.Gradient s)) h =
-    let k = h.kept in
-    let ax = back s.ax k.0.0 in
-    let ay = back s.ay k.1.0.0 in
-    let slope = back s.slope (omega (arith, ints, k.1.1.1.1.1.0.0)) in
-    λ i. Some (stated.Gradient (record { ax = ax i; ay = ay i; dx = s.dx; dy = s.dy; slope = slope i }))
-mask_back (Some (stated.Ellipse s)) h =
-    let k = h.kept in
-    let l = k.1.1.1.1.1 in
-    let cx = back s.cx k.0.0 in
-    let cy = back s.cy k.1.0.0 in
-    let a = back s.a (omega (arith, ints, l.0.0)) in
-    let b = back s.b (omega (arith, ints, l.1.0.0)) in
-    let feather = back s.feather (omega (arith, ints, l.1.1.0.0)) in
-    λ i. Some (stated.Ellipse (record { cx = cx i; cy = cy i; ux = s.ux; uy = s.uy; a = a i; b = b i; feather = feather i }))
+-- the nodes of a list of pairs whose entries are kept, by the field under which it stands
+curve_back : (field : Field) (ns : List (ℤ × ℤ)) (more : List Entry) → AllByRecursion IsKept (nodes_entries field 0 (negsuc 0) ns ++ more) → wide_nodes (nodes_of ns) ≡ ns
+curve_back field ns more k = nodes_back ns (nodes_kept field 0 (negsuc 0) ns (all_append IsKept (nodes_entries field 0 (negsuc 0) ns) more k).0)
 
-blend_within : (s : StatedBlend) → AllKept (blend_entries s) → IsBlendWithin (blend_value s)
-blend_within s h =
-    let opacity = back s.opacity h.kept.0.0 in
-    let mask = mask_back s.mask (record { kept = h.kept.1 }) in
-    let same : stated_blend (blend_value s) ≡ s = λ i. record { opacity = opacity i; mode = s.mode; mask = mask i } in
-    subst (λ t. AllKept (blend_entries t)) (sym same) h
+three_back : (t : Triple) → pos 0 ≤ℤ t.0 → pos 0 ≤ℤ t.1 → pos 0 ≤ℤ t.2 → wide_three (naturals t) ≡ t
+three_back t f g h = λ i. (back t.0 f i, back t.1 g i, back t.2 h i)
+
+pub params_back : (m : Module) (ps : List Part) → IsRowKept (row_of m) ps → IsBack m ps (params_from m ps)
+params_back modules.RawPrepare (three t ∷ one w ∷ []) h =
+    let k = h.kept in
+    let black = three_back t k.0.0 k.1.0.0 k.1.1.0.0 in
+    let white = back w (omega (arith, ints, k.1.1.1.0.0)) in
+    record { parts = λ i. three (black i) ∷ one (white i) ∷ []; sized = refl; is = refl }
+params_back modules.Temperature (three t ∷ []) h =
+    let k = h.kept in
+    let mul = three_back t k.0.0 k.1.0.0 k.1.1.0.0 in
+    record { parts = λ i. three (mul i) ∷ []; sized = refl; is = refl }
+params_back modules.Demosaic [] h = record { parts = refl; sized = tt; is = refl }
+params_back modules.Orientation (flag a ∷ flag b ∷ flag c ∷ []) h = record { parts = refl; sized = tt; is = refl }
+params_back modules.Crop (one l ∷ one t ∷ one r ∷ one b ∷ []) h =
+    let k = h.kept in
+    let left = back l k.0.0 in
+    let top = back t k.1.0.0 in
+    let right = back r (omega (arith, ints, k.1.1.0.0)) in
+    let bottom = back b (omega (arith, ints, k.1.1.1.1.0.0)) in
+    record { parts = λ i. one (left i) ∷ one (top i) ∷ one (right i) ∷ one (bottom i) ∷ []; sized = tt; is = refl }
+params_back modules.Exposure (one b ∷ one g ∷ one s ∷ []) h =
+    let gain = back g h.kept.1.0.0 in
+    record { parts = λ i. one b ∷ one (gain i) ∷ one s ∷ []; sized = tt; is = refl }
+params_back modules.ChannelMixer (nine t ∷ []) h = record { parts = refl; sized = refl; is = refl }
+params_back modules.ToneCurve (pairs r ∷ pairs g ∷ pairs b ∷ []) h =
+    let behind_red = (all_append IsKept (curve_entries Red r) (curve_entries Green g ++ (curve_entries Blue b ++ [])) h.kept).1 in
+    let behind_green = (all_append IsKept (curve_entries Green g) (curve_entries Blue b ++ []) behind_red).1 in
+    let red = curve_back Red r _ h.kept.1 in
+    let green = curve_back Green g _ behind_red.1 in
+    let blue = curve_back Blue b _ behind_green.1 in
+    record { parts = λ i. pairs (red i) ∷ pairs (green i) ∷ pairs (blue i) ∷ []; sized = tt; is = refl }
+params_back modules.BoxBlur (one r ∷ []) h =
+    let radius = back r (omega (arith, ints, h.kept.0.0)) in
+    record { parts = λ i. one (radius i) ∷ []; sized = tt; is = refl }
+params_back modules.Sharpen (one r ∷ one a ∷ []) h =
+    let radius = back r (omega (arith, ints, h.kept.0.0)) in
+    let amount = back a h.kept.1.0.0 in
+    record { parts = λ i. one (radius i) ∷ one (amount i) ∷ []; sized = tt; is = refl }
+params_back m ps h = absurd (assumption h.fits)
 
 -- ---- what is read
 
-kept_case : {B : Type 0} (es : List Entry) (x y : B) (r : Result ⊤ ParamFault) → first_fault es ≡ r → unless_fault r x ≡ Ok y → AllKept es × (x ≡ y)
-kept_case es x y (Ok t) e q = (all_kept es e, cc)
-kept_case es x y (Err f) e q = cc
+kept_read : {B : Type 0} (row : List Cell) (make : List Part → B) (P : B → Type 0) → ((ps : List Part) → IsRowKept row ps → P (make ps))
+    → (ps : List Part) (b : B) (r : Result ⊤ ParamFault) → first_fault (row_entries row ps) ≡ r → Fits row ps → unless_fault r (make ps) ≡ Ok b → P b
+kept_read row make P each ps b (Err f) e fits q = cc
+kept_read row make P each ps b (Ok t) e fits q =
+    let same : make ps ≡ b = cc in
+    subst P same (each ps (record { fits = fits; kept = (all_kept (row_entries row ps) e).kept }))
 
--- what holds of each value whose entries are kept holds of what is read
-kept_read : {A B : Type 0} (o : Option A) (entries : A → List Entry) (value : A → B) (P : B → Type 0) → ((s : A) → AllKept (entries s) → P (value s))
-    → (y : B) → or_form o (λ s. if_kept (entries s) (value s)) ≡ Ok y → P y
-kept_read None entries value P each y q = cc
-kept_read (Some s) entries value P each y q =
-    let both = kept_case (entries s) (value s) y (first_fault (entries s)) refl q in
-    subst P both.1 (each s both.0)
+form_case : {B : Type 0} (row : List Cell) (make : List Part → B) (P : B → Type 0) → ((ps : List Part) → IsRowKept row ps → P (make ps))
+    → (o : Option (List Part)) (b : B) → ((ps : List Part) → o ≡ Some ps → Fits row ps)
+    → or_form o (λ ps. unless_fault (first_fault (row_entries row ps)) (make ps)) ≡ Ok b → P b
+form_case row make P each None b f q = cc
+form_case row make P each (Some ps) b f q = kept_read row make P each ps b (first_fault (row_entries row ps)) refl (f ps refl) q
 
-as_read : {A : Type 0} (make : A → Params) (m : Module) (r : Result A JsonEnd) (P : A → Type 0) → ((x : A) → r ≡ Ok x → P x)
-    → ((x : A) → P x → IsWithin (make x) × (module_of (make x) ≡ m)) → (p : Params) → read_as make r ≡ Ok p → IsWithin p × (module_of p ≡ m)
-as_read make m (Ok x) P read each p q =
-    let same : make x ≡ p = cc in
-    subst (λ p. IsWithin p × (module_of p ≡ m)) same (each x (read x refl))
-as_read make m (Err e) P read each p q = cc
+-- what holds of all that parts make which keep a row holds of what is read by the row
+row_read_has : {B : Type 0} (row : List Cell) (make : List Part → B) (P : B → Type 0) → ((ps : List Part) → IsRowKept row ps → P (make ps)) → (d : Data) (b : B) → row_read row make d ≡ Ok b → P b
+row_read_has row make P each d b q = form_case row make P each (row_form [] row d) b (row_fits [] row d) q
+
+-- settings of a module, within their ranges
+pub record IsSettings (m : Module) (p : Params) : Type 0 where
+  pub within : IsWithin p
+  pub is : module_of p ≡ m
+
+newest_settings : (m : Module) (ps : List Part) → IsRowKept (row_of m) ps → IsSettings m (params_from m ps)
+newest_settings m ps h =
+    let b = params_back m ps h in
+    record { within = record { sized = b.sized; kept = rw (b.is, b.parts) h.kept }; is = b.is }
+
+-- ---- old versions
+
+old_back : (o : OldVersion) (ps : List Part) → IsRowKept (old_row_of o) ps → (version_of (old_from o ps) ≡ o) × (old_parts_of (old_from o ps) ≡ ps)
+old_back olds.Exposure1 (one b ∷ one g ∷ []) h = let gain = back g h.kept.1.0.0 in (refl, λ i. one b ∷ one (gain i) ∷ [])
+old_back olds.ToneCurve1 (pairs ns ∷ []) h = let nodes = curve_back Nodes ns _ h.kept.1 in (refl, λ i. pairs (nodes i) ∷ [])
+old_back o ps h = absurd (assumption h.fits)
+
+-- old settings whose parts are kept are within the old ranges
+pub old_within : (o : OldVersion) (ps : List Part) → IsRowKept (old_row_of o) ps → IsOldWithin (old_from o ps)
+old_within o ps h = let b = old_back o ps h in record { kept = rw (b.0, b.1) h.kept }
+
+old_settings : (m : Module) (o : OldVersion) (ps : List Part) → module_of_old o ≡ m → IsRowKept (old_row_of o) ps → IsSettings m (migrated (old_from o ps))
+old_settings m o ps e h =
+    let b = old_back o ps h in
+    record { within = migrated_within (old_from o ps) (old_within o ps h); is = migrated_module (old_from o ps) ∙ ap module_of_old b.0 ∙ e }
+
+only_some : {A : Type 0} (b : Bool) (x y : A) → only_if b x ≡ Some y → x ≡ y
+only_some true x y e = cc
+only_some false x y e = cc
+
+old_of : (m : Module) (v : ℕ) (o : OldVersion) → old_version m v ≡ Some o → module_of_old o ≡ m
+old_of modules.Exposure v o e = let same : olds.Exposure1 ≡ o = only_some (nat_eq v 1) olds.Exposure1 o e in sym (ap module_of_old same)
+old_of modules.ToneCurve v o e = let same : olds.ToneCurve1 ≡ o = only_some (nat_eq v 1) olds.ToneCurve1 o e in sym (ap module_of_old same)
+old_of _ v o e = cc
+
+-- ---- all versions
+
+old_case : (m : Module) (o : Option OldVersion) (d : Data) (p : Params) → ((x : OldVersion) → o ≡ Some x → module_of_old x ≡ m) → or_form o (λ x. old_read x d) ≡ Ok p → IsSettings m p
+old_case m None d p f q = cc
+old_case m (Some x) d p f q = row_read_has (old_row_of x) (λ ps. migrated (old_from x ps)) (IsSettings m) (λ ps h. old_settings m x ps (f x refl) h) d p q
+
+version_case : (m : Module) (b : Bool) (v : ℕ) (d : Data) (p : Params) → (if b then newest_read m d else or_form (old_version m v) (λ o. old_read o d)) ≡ Ok p → IsSettings m p
+version_case m true v d p q = row_read_has (row_of m) (params_from m) (IsSettings m) (newest_settings m) d p q
+version_case m false v d p q = old_case m (old_version m v) d p (old_of m v) q
+
+params_settings : (m : Module) (v : ℕ) (d : Data) (p : Params) → params_of m v d ≡ Ok p → IsSettings m p
+params_settings m v d p q = version_case m (nat_eq v (newest_of m)) v d p q
 
 -- settings that are read are those of the module, within their ranges
-pub params_read_within : (m : Module) (d : Data) (p : Params) → params_of m d ≡ Ok p → IsWithin p × (module_of p ≡ m)
-params_read_within modules.RawPrepare d = as_read params.RawPrepare modules.RawPrepare (raw_read d) IsRawWithin (kept_read (raw_form d) raw_entries raw_of IsRawWithin raw_within) (λ x h. (h, refl))
-params_read_within modules.Temperature d = as_read params.Temperature modules.Temperature (temperature_read d) IsTemperatureWithin (kept_read (temperature_form d) temperature_entries temperature_of IsTemperatureWithin temperature_within) (λ x h. (h, refl))
-params_read_within modules.Demosaic d = as_read (λ t. params.Demosaic) modules.Demosaic (demosaic_read d) (λ t. ⊤) (λ x h. tt) (λ x h. (tt, refl))
-params_read_within modules.Orientation d = as_read params.Orientation modules.Orientation (orientation_read d) (λ o. ⊤) (λ x h. tt) (λ x h. (tt, refl))
-params_read_within modules.Crop d = as_read params.Crop modules.Crop (crop_read d) IsCropWithin (kept_read (crop_form d) crop_entries crop_of IsCropWithin crop_within) (λ x h. (h, refl))
-params_read_within modules.Exposure d = as_read params.Exposure modules.Exposure (exposure_read d) IsExposureWithin (kept_read (exposure_form d) exposure_entries exposure_of IsExposureWithin exposure_within) (λ x h. (h, refl))
-params_read_within modules.ChannelMixer d = as_read params.ChannelMixer modules.ChannelMixer (mixer_read d) IsMixerWithin (kept_read (mixer_form d) mixer_entries mixer_of IsMixerWithin mixer_within) (λ x h. (h, refl))
-params_read_within modules.ToneCurve d = as_read params.ToneCurve modules.ToneCurve (curve_read d) IsCurveWithin (kept_read (curve_form d) (curve_entries Nodes) curve_of IsCurveWithin curve_within) (λ x h. (h, refl))
+pub params_read_within : (m : Module) (v : ℕ) (d : Data) (p : Params) → params_of m v d ≡ Ok p → IsWithin p × (module_of p ≡ m)
+params_read_within m v d p q = let s = params_settings m v d p q in (s.within, s.is)
 
-blend_case : (s : Option (Option StatedBlend)) (o : Option Blend) → or_form s blend_kept ≡ Ok o → IfSome o IsBlendWithin
-blend_case None o q = cc
-blend_case (Some None) o q = let same : None ≡ o = cc in subst (λ o. IfSome o IsBlendWithin) same tt
-blend_case (Some (Some s)) o q = kept_read (Some s) blend_entries (λ s. Some (blend_value s)) (λ o. IfSome o IsBlendWithin) blend_within o q
+pub params_within_on_ok : (r : Result Params JsonEnd) (m : Module) (v : ℕ) (d : Data) → IsReading r (params_of m v d) → IfOk r IsWithin
+params_within_on_ok (Ok p) m v d h = (params_read_within m v d p h).0
+params_within_on_ok (Err e) m v d h = tt
+
+pub params_module_on_ok : (r : Result Params JsonEnd) (m : Module) (v : ℕ) (d : Data) → IsReading r (params_of m v d) → IfOk r (λ p. module_of p ≡ m)
+params_module_on_ok (Ok p) m v d h = (params_read_within m v d p h).1
+params_module_on_ok (Err e) m v d h = tt
+
+-- what is stated by a row, with no fault, is kept
+pub row_kept : (row : List Cell) (d : Data) (ps qs : List Part) → form_read (row_form [] row d) ≡ Ok ps → qs ≡ ps → first_fault (row_entries row qs) ≡ Ok tt → IsRowKept row qs
+row_kept row d ps qs e same ok = record { fits = rw same (row_fits [] row d ps (some_of (row_form [] row d) ps e)); kept = (all_kept (row_entries row qs) ok).kept }
+
+-- ---- masks and blends
+
+shape_back : (k : MaskKind) (ps : List Part) → IsRowKept (mask_row_of k) ps → (kind_of (shape_from k ps) ≡ k) × (shape_parts (shape_from k ps) ≡ ps)
+shape_back masks.Gradient (one ax ∷ one ay ∷ one dx ∷ one dy ∷ one slope ∷ []) h =
+    let k = h.kept in
+    let x = back ax k.0.0 in
+    let y = back ay k.1.0.0 in
+    let s = back slope (omega (arith, ints, k.1.1.1.1.1.0.0)) in
+    (refl, λ i. one (x i) ∷ one (y i) ∷ one dx ∷ one dy ∷ one (s i) ∷ [])
+shape_back masks.Ellipse (one cx ∷ one cy ∷ one ux ∷ one uy ∷ one a ∷ one b ∷ one feather ∷ []) h =
+    let k = h.kept in
+    let l = k.1.1.1.1.1 in
+    let x = back cx k.0.0 in
+    let y = back cy k.1.0.0 in
+    let s = back a (omega (arith, ints, l.0.0)) in
+    let t = back b (omega (arith, ints, l.1.0.0)) in
+    let f = back feather (omega (arith, ints, l.1.1.0.0)) in
+    (refl, λ i. one (x i) ∷ one (y i) ∷ one ux ∷ one uy ∷ one (s i) ∷ one (t i) ∷ one (f i) ∷ [])
+shape_back k ps h = absurd (assumption h.fits)
+
+mask_back : (m : Option StatedMask) → IfSome m IsMaskKept → option_map stated_mask (option_map mask_from m) ≡ m
+mask_back None h = refl
+mask_back (Some m) h = let b = shape_back m.0 m.1 h in λ i. Some (b.0 i, b.1 i)
+
+parts_back : (ps : List Part) → IsRowKept blend_row ps → natural (natural_at ps 0) ∷ [] ≡ ps
+parts_back (one z ∷ []) h = let opacity = back z h.kept.0.0 in λ i. one (opacity i) ∷ []
+parts_back ps h = absurd (assumption h.fits)
+
+blend_back : (s : StatedBlend) → IsBlendKept s → stated_blend (blend_from s) ≡ s
+blend_back s h =
+    let parts = parts_back s.parts h.row in
+    let mask = mask_back s.mask h.mask in
+    λ i. record { mode = s.mode; parts = parts i; mask = mask i }
+
+both_rows : (m : Option StatedMask) → AllByRecursion IsKept (mask_entries m) → IfSome m (λ x. Fits (mask_row_of x.0) x.1) → IfSome m IsMaskKept
+both_rows None k f = tt
+both_rows (Some m) k f = record { fits = f; kept = k }
+
+-- what is stated for a blend fits its rows
+pub record BlendFits (s : StatedBlend) : Type 0 where
+  pub row : Fits blend_row s.parts
+  pub mask : IfSome s.mask (λ m. Fits (mask_row_of m.0) m.1)
+
+pub blend_kept_of : (s : StatedBlend) → BlendFits s → first_fault (blend_entries s) ≡ Ok tt → IsBlendKept s
+blend_kept_of s f e =
+    let kept = (all_kept (blend_entries s) e).kept in
+    let split = all_append IsKept (row_entries blend_row s.parts) (mask_entries s.mask) kept in
+    record { row = record { fits = f.row; kept = split.0 }; mask = both_rows s.mask split.1 f.mask }
+
+some_map : {A B : Type 0} (f : A → B) (o : Option A) (b : B) → option_map f o ≡ Some b → (a : A) × (o ≡ Some a) × (f a ≡ b)
+some_map f None b e = cc
+some_map f (Some a) b e = (a, refl, cc)
+
+-- what a step that gives a value was given, and what the rest gives
+some_then : {A B : Type 0} (f : A → Option B) (o : Option A) (b : B) → option_and_then f o ≡ Some b → (a : A) × (o ≡ Some a) × (f a ≡ Some b)
+some_then f None b e = cc
+some_then f (Some a) b e = (a, refl, e)
+
+mask_fits : (d : Data) (m : StatedMask) → mask_form d ≡ Some m → Fits (mask_row_of m.0) m.1
+mask_fits d m e =
+    let word = some_then (λ w. mask_named w >>= λ k. row_form (shape_key ∷ []) (mask_row_of k) d >>= λ ps. Some (k, ps)) (text_at shape_key d) m e in
+    let kind = some_then (λ k. row_form (shape_key ∷ []) (mask_row_of k) d >>= λ ps. Some (k, ps)) (mask_named word.0) m word.2 in
+    let parts = some_then (λ ps. Some (kind.0, ps)) (row_form (shape_key ∷ []) (mask_row_of kind.0) d) m kind.2 in
+    let same : (kind.0, parts.0) ≡ m = cc (parts.2) in
+    subst (λ x. Fits (mask_row_of x.0) x.1) same (row_fits (shape_key ∷ []) (mask_row_of kind.0) d parts.0 parts.1)
+
+null_fits : (b : Bool) (d : Data) (o : Option StatedMask) → (if b then Some None else option_map Some (mask_form d)) ≡ Some o → IfSome o (λ m. Fits (mask_row_of m.0) m.1)
+null_fits true d o e = let same : None ≡ o = cc in subst (λ x. IfSome x (λ m. Fits (mask_row_of m.0) m.1)) same tt
+null_fits false d o e =
+    let m = some_map Some (mask_form d) o e in
+    subst (λ x. IfSome x (λ m. Fits (mask_row_of m.0) m.1)) m.2 (mask_fits d m.0 m.1)
+
+pub blend_fits : (d : Data) (s : StatedBlend) → blend_form d ≡ Some s → BlendFits s
+blend_fits d s e =
+    let parts = some_then (λ ps. text_at (codes "mode") d >>= λ w. mode_named w >>= λ mode. get (codes "mask") d >>= λ v. null_or mask_form v >>= λ mask. Some (record { mode = mode; parts = ps; mask = mask })) (row_form blend_keys blend_row d) s e in
+    let word = some_then (λ w. mode_named w >>= λ mode. get (codes "mask") d >>= λ v. null_or mask_form v >>= λ mask. Some (record { mode = mode; parts = parts.0; mask = mask })) (text_at (codes "mode") d) s parts.2 in
+    let mode = some_then (λ mode. get (codes "mask") d >>= λ v. null_or mask_form v >>= λ mask. Some (record { mode = mode; parts = parts.0; mask = mask })) (mode_named word.0) s word.2 in
+    let value = some_then (λ v. null_or mask_form v >>= λ mask. Some (record { mode = mode.0; parts = parts.0; mask = mask })) (get (codes "mask") d) s mode.2 in
+    let mask = some_then (λ mask. Some (record { mode = mode.0; parts = parts.0; mask = mask })) (null_or mask_form value.0) s value.2 in
+    let made : StatedBlend = record { mode = mode.0; parts = parts.0; mask = mask.0 } in
+    let same : made ≡ s = cc (mask.2) in
+    subst BlendFits same (record { row = row_fits blend_keys blend_row d parts.0 parts.1; mask = null_fits (is_some (as_null value.0)) value.0 mask.0 mask.1 })
+
+blend_case : (s : StatedBlend) (r : Result ⊤ ParamFault) (o : Option Blend) → first_fault (blend_entries s) ≡ r → BlendFits s → unless_fault r (Some (blend_from s)) ≡ Ok o → IfSome o IsBlendWithin
+blend_case s (Err f) o e fits q = cc
+blend_case s (Ok t) o e fits q =
+    let same : Some (blend_from s) ≡ o = cc in
+    let kept = (all_kept (blend_entries s) e).kept in
+    subst (λ x. IfSome x IsBlendWithin) same (record { kept = subst (λ x. AllByRecursion IsKept (blend_entries x)) (sym (blend_back s (blend_kept_of s fits e))) kept })
+
+form_blend : (s : Option StatedBlend) (o : Option Blend) → IfSome s BlendFits → blend_kept s ≡ Ok o → IfSome o IsBlendWithin
+form_blend None o f q = let same : None ≡ o = cc in subst (λ x. IfSome x IsBlendWithin) same tt
+form_blend (Some s) o f q = blend_case s (first_fault (blend_entries s)) o refl f q
+
+read_blend : (s : Option StatedBlend) (o : Option Blend) → ((x : StatedBlend) → s ≡ Some x → BlendFits x) → or_form (option_map Some s) blend_kept ≡ Ok o → IfSome o IsBlendWithin
+read_blend None o f q = cc
+read_blend (Some s) o f q = form_blend (Some s) o (f s refl) q
+
+or_blend : (b : Bool) (d : Data) (o : Option Blend) → or_form (if b then Some None else option_map Some (blend_form d)) blend_kept ≡ Ok o → IfSome o IsBlendWithin
+or_blend true d o q = form_blend None o tt q
+or_blend false d o q = read_blend (blend_form d) o (blend_fits d) q
 
 -- a blend that is read is within its ranges
 pub blend_read_within : (d : Data) (o : Option Blend) → blend_of d ≡ Ok o → IfSome o IsBlendWithin
-blend_read_within d = blend_case (null_or blend_form d)
-
--- ---- for contracts
-
-pub params_within_on_ok : (r : Result Params JsonEnd) (m : Module) (d : Data) → IsReading r (params_of m d) → IfOk r IsWithin
-params_within_on_ok (Ok p) m d h = (params_read_within m d p h).0
-params_within_on_ok (Err e) m d h = tt
-
-pub params_module_on_ok : (r : Result Params JsonEnd) (m : Module) (d : Data) → IsReading r (params_of m d) → IfOk r (λ p. module_of p ≡ m)
-params_module_on_ok (Ok p) m d h = (params_read_within m d p h).1
-params_module_on_ok (Err e) m d h = tt
+blend_read_within d o q = or_blend (is_some (as_null d)) d o q
 
 pub blend_within_on_ok : (r : Result (Option Blend) JsonEnd) (d : Data) → r ≡ blend_of d → IfOk r (λ o. IfSome o IsBlendWithin)
 blend_within_on_ok (Ok o) d h = blend_read_within d o (sym h)

@@ -1,9 +1,12 @@
+pub mod Table
 pub mod Names
 pub mod Rules
-pub mod Ranges
-pub mod Nodes
 pub mod Form
+pub mod Nodes
 pub mod Stated
+pub mod Seen
+pub mod Ranges
 pub mod Read
 pub mod Written
 pub mod Curve
+pub mod Each

@@ -1,26 +1,15 @@
 -- The names that scripts give modules, modes and fields.
 use Rattle.std.specs.Prelude.{ℕ, List, [], ◌∷◌, Option, codes}
 use Rattle.params.specs.Form.{named}
+use Rattle.params.specs.Table.{module_row, all_modules}
 use Rattle.params.specs.declared.blending.Mode.{Mode}
 use Rattle.params.specs.declared.blending.Mode.TheVariants as modes
 use Rattle.params.specs.declared.modules.Module.{Module}
-use Rattle.params.specs.declared.modules.Module.TheVariants as modules
 use Rattle.params.specs.declared.fault.Field.{Field}
 use Rattle.params.specs.declared.fault.Field.TheVariants as fields
 
 abbrev pub name_of_module : Module → List ℕ
-name_of_module modules.RawPrepare = codes "rawprepare"
-name_of_module modules.Temperature = codes "temperature"
-name_of_module modules.Demosaic = codes "demosaic"
-name_of_module modules.Orientation = codes "orientation"
-name_of_module modules.Crop = codes "crop"
-name_of_module modules.Exposure = codes "exposure"
-name_of_module modules.ChannelMixer = codes "channelmixer"
-name_of_module modules.ToneCurve = codes "tonecurve"
-
--- the modules, in their start order
-abbrev pub all_modules : List Module
-all_modules = modules.RawPrepare ∷ modules.Temperature ∷ modules.Demosaic ∷ modules.Orientation ∷ modules.Crop ∷ modules.Exposure ∷ modules.ChannelMixer ∷ modules.ToneCurve ∷ []
+name_of_module m = (module_row m).name
 
 abbrev pub module_named : List ℕ → Option Module
 module_named text = named name_of_module all_modules text
@@ -44,14 +33,7 @@ mode_named text = named name_of_mode all_modes text
 
 -- a module's place among the modules
 abbrev pub number_of : Module → ℕ
-number_of modules.RawPrepare = 0
-number_of modules.Temperature = 1
-number_of modules.Demosaic = 2
-number_of modules.Orientation = 3
-number_of modules.Crop = 4
-number_of modules.Exposure = 5
-number_of modules.ChannelMixer = 6
-number_of modules.ToneCurve = 7
+number_of m = (module_row m).number
 
 -- a field's name: the key under which it stands
 abbrev pub name_of_field : Field → List ℕ
@@ -66,8 +48,14 @@ name_of_field fields.Top = codes "top"
 name_of_field fields.Right = codes "right"
 name_of_field fields.Bottom = codes "bottom"
 name_of_field fields.Gain = codes "gain"
+name_of_field fields.Stops = codes "stops"
 name_of_field fields.Rows = codes "rows"
 name_of_field fields.Nodes = codes "nodes"
+name_of_field fields.Red = codes "red"
+name_of_field fields.Green = codes "green"
+name_of_field fields.Blue = codes "blue"
+name_of_field fields.Radius = codes "radius"
+name_of_field fields.Amount = codes "amount"
 name_of_field fields.Opacity = codes "opacity"
 name_of_field fields.Ax = codes "ax"
 name_of_field fields.Ay = codes "ay"

@@ -1,136 +1,30 @@
--- The range of each number of the settings, in the order of the checks.
-use Rattle.std.specs.Prelude.{◌≡◌, IsTrue, ℕ, ◌+◌, ℤ, pos, negsuc, List, [], ◌∷◌, length, map, slice_index, slice_index_or, option_map, ⊤, Option, Some, None, Result, Ok, Err, if◌then◌else◌, Bool, true, false}
+-- Settings as the parts of their row, and the range of each number of them.
+use Rattle.std.specs.Prelude.{◌≡◌, ℕ, zero, suc, ◌+◌, ℤ, pos, negsuc, int_le, ◌≤ℤ◌, ◌≤◌, ◌&&◌, IsTrue, Bool, false, nat_eq, List, [], ◌∷◌, ◌++◌, map, length, slice_index, slice_index_or, option_map, ⊤, Option, Some, None, IfSome, Result, Ok, Err, if◌then◌else◌}
+use Rattle.std.specs.List.{AllByRecursion}
+use Rattle.params.specs.Form.{natural_of, only_if}
+use Rattle.params.specs.Rules.{first_fault, IsKept}
+use Rattle.params.specs.Seen.{wide_nodes}
+use Rattle.params.specs.Stated.{Fits, StatedBlend, StatedMask, part_at, row_entries, mask_entries, blend_entries}
+use Rattle.params.specs.Table.{Part, one, three, nine, pairs, flag, Triple, module_row, row_of, old_row_of, blend_row, mask_row_of}
 use Rattle.params.specs.declared.blending.Blend.{Blend}
 use Rattle.params.specs.declared.blending.Shape.{Shape}
-use Rattle.params.specs.declared.blending.Shape.TheVariants as shape
-use Rattle.params.specs.declared.fault.Field.TheVariants.{Black, White, Mul, Left, Top, Right, Bottom, Gain, Rows, Opacity, Ax, Ay, Dx, Dy, Slope, Cx, Cy, Ux, Uy, A, B, Feather}
-use Rattle.params.specs.declared.fault.Field.TheVariants as field
-use Rattle.params.specs.declared.fault.Field.{Field}
+use Rattle.params.specs.declared.blending.Shape.TheVariants as shapes
+use Rattle.params.specs.declared.fault.Field.TheVariants as fields
 use Rattle.params.specs.declared.fault.ParamFault.{ParamFault}
+use Rattle.params.specs.declared.masks.MaskKind.{MaskKind}
+use Rattle.params.specs.declared.masks.MaskKind.TheVariants as masks
 use Rattle.params.specs.declared.modules.Module.{Module}
 use Rattle.params.specs.declared.modules.Module.TheVariants as modules
+use Rattle.params.specs.declared.old.OldParams.{OldParams}
+use Rattle.params.specs.declared.old.OldParams.TheVariants as old
+use Rattle.params.specs.declared.old.OldVersion.{OldVersion}
+use Rattle.params.specs.declared.old.OldVersion.TheVariants as olds
 use Rattle.params.specs.declared.rules.Entry.{Entry}
-use Rattle.params.specs.declared.rules.Rule.TheVariants.{Between, Above, NotBothZero}
+use Rattle.params.specs.declared.row.Cell.{Cell}
 use Rattle.params.specs.declared.settings.Params.{Params}
 use Rattle.params.specs.declared.settings.Params.TheVariants as params
-use Rattle.params.specs.declared.settings.RawPrepare.{RawPrepare}
-use Rattle.params.specs.declared.settings.Crop.{Crop}
-use Rattle.params.specs.declared.settings.Temperature.{Temperature}
-use Rattle.params.specs.declared.settings.ToneCurve.{ToneCurve}
-use Rattle.params.specs.declared.settings.Exposure.{Exposure}
-use Rattle.params.specs.declared.settings.ChannelMixer.{ChannelMixer}
-use Rattle.params.specs.declared.stated.StatedRaw.{StatedRaw}
-use Rattle.params.specs.declared.stated.StatedCrop.{StatedCrop}
-use Rattle.params.specs.declared.stated.StatedExposure.{StatedExposure}
-use Rattle.params.specs.declared.stated.StatedGradient.{StatedGradient}
-use Rattle.params.specs.declared.stated.StatedEllipse.{StatedEllipse}
-use Rattle.params.specs.declared.stated.StatedShape.{StatedShape}
-use Rattle.params.specs.declared.stated.StatedShape.TheVariants as stated
-use Rattle.params.specs.declared.stated.StatedBlend.{StatedBlend}
-use Rattle.params.specs.Rules.{entry, up_to, either_side, three_entries, first_fault, AllKept}
 
--- ---- the tables: over numbers of any size, as they are stated
-
-abbrev pub raw_entries : StatedRaw → List Entry
-raw_entries s = three_entries Black 0 s.black (up_to (pos 65535)) (
-    entry White 0 s.white (Between (pos 1) (pos 65535)) ∷ entry White 0 s.white (Above s.black.0) ∷ entry White 0 s.white (Above s.black.1) ∷ entry White 0 s.white (Above s.black.2) ∷ [])
-
-abbrev pub temperature_entries : ℤ × ℤ × ℤ → List Entry
-temperature_entries mul = three_entries Mul 0 mul (up_to (pos 32768)) []
-
-abbrev pub crop_entries : StatedCrop → List Entry
-crop_entries s =
-    entry Left 0 s.left (up_to (pos 65535)) ∷ entry Top 0 s.top (up_to (pos 65535))
-    ∷ entry Right 0 s.right (Between (pos 1) (pos 65536)) ∷ entry Right 0 s.right (Above s.left)
-    ∷ entry Bottom 0 s.bottom (Between (pos 1) (pos 65536)) ∷ entry Bottom 0 s.bottom (Above s.top) ∷ []
-
-abbrev pub exposure_entries : StatedExposure → List Entry
-exposure_entries s = entry Black 0 s.black (either_side (pos 65535)) ∷ entry Gain 0 s.gain (up_to (pos 65536)) ∷ []
-
-abbrev pub Triple : Type 0
-Triple = ℤ × ℤ × ℤ
-
-abbrev pub mixer_entries : Triple × Triple × Triple → List Entry
-mixer_entries rows =
-    three_entries Rows 0 rows.0 (either_side (pos 32768)) (three_entries Rows 3 rows.1 (either_side (pos 32768)) (three_entries Rows 6 rows.2 (either_side (pos 32768)) []))
-
--- the greatest value of a channel
-abbrev pub top : ℤ
-top = pos 1048575
-
--- the node at a place, behind a node whose first number is `before`
-abbrev pub node_entries : Field → ℕ → ℤ → ℤ × ℤ → List Entry → List Entry
-node_entries field at before node more =
-    entry field at node.0 (up_to top) ∷ entry field at node.1 (up_to top) ∷ entry field at node.0 (Above before) ∷ more
-
--- the nodes from a place on, behind a node whose first number is `before`
-abbrev pub nodes_entries : Field → ℕ → ℤ → List (ℤ × ℤ) → List Entry
-nodes_entries field at before [] = []
-nodes_entries field at before (node ∷ nodes) = node_entries field at before node (nodes_entries field (at + 1) node.0 nodes)
-
-abbrev pub count_entry : Field → ℤ → Entry
-count_entry field count = entry field 0 count (Between (pos 2) (pos 20))
-
--- a list of nodes: their number, then each; every number is above -1, which stands before the first
-abbrev pub curve_entries : Field → List (ℤ × ℤ) → List Entry
-curve_entries field nodes = count_entry field (pos (length nodes)) ∷ nodes_entries field 0 (negsuc 0) nodes
-
-abbrev pub gradient_entries : StatedGradient → List Entry
-gradient_entries s =
-    entry Ax 0 s.ax (up_to (pos 65536)) ∷ entry Ay 0 s.ay (up_to (pos 65536))
-    ∷ entry Dx 0 s.dx (either_side (pos 1024)) ∷ entry Dy 0 s.dy (either_side (pos 1024)) ∷ entry Dy 0 s.dy (NotBothZero s.dx)
-    ∷ entry Slope 0 s.slope (Between (pos 1) (pos 65536)) ∷ []
-
-abbrev pub ellipse_entries : StatedEllipse → List Entry
-ellipse_entries s =
-    entry Cx 0 s.cx (up_to (pos 65536)) ∷ entry Cy 0 s.cy (up_to (pos 65536))
-    ∷ entry Ux 0 s.ux (either_side (pos 1024)) ∷ entry Uy 0 s.uy (either_side (pos 1024)) ∷ entry Uy 0 s.uy (NotBothZero s.ux)
-    ∷ entry A 0 s.a (Between (pos 1) (pos 65536)) ∷ entry B 0 s.b (Between (pos 1) (pos 65536)) ∷ entry Feather 0 s.feather (Between (pos 1) (pos 65536)) ∷ []
-
-abbrev pub mask_entries : Option StatedShape → List Entry
-mask_entries None = []
-mask_entries (Some (stated.Gradient s)) = gradient_entries s
-mask_entries (Some (stated.Ellipse s)) = ellipse_entries s
-
-abbrev pub blend_entries : StatedBlend → List Entry
-blend_entries s = entry Opacity 0 s.opacity (up_to (pos 65536)) ∷ mask_entries s.mask
-
--- ---- settings of a type, as they are stated
-
--- the three natural numbers of a list
-abbrev pub wide_three : List ℕ → ℤ × ℤ × ℤ
-wide_three xs = (pos (slice_index xs 0), pos (slice_index xs 1), pos (slice_index xs 2))
-
--- the three whole numbers of a list from a place on
-abbrev pub three_from : List ℤ → ℕ → ℤ × ℤ × ℤ
-three_from xs i = (slice_index_or xs i (pos 0), slice_index_or xs (i + 1) (pos 0), slice_index_or xs (i + 2) (pos 0))
-
-abbrev pub stated_raw : RawPrepare → StatedRaw
-stated_raw p = record { black = wide_three p.black; white = pos p.white }
-
-abbrev pub stated_crop : Crop → StatedCrop
-stated_crop p = record { left = pos p.left; top = pos p.top; right = pos p.right; bottom = pos p.bottom }
-
-abbrev pub stated_exposure : Exposure → StatedExposure
-stated_exposure p = record { black = p.black; gain = pos p.gain }
-
-abbrev pub stated_mixer : ChannelMixer → Triple × Triple × Triple
-stated_mixer p = (three_from p.rows 0, three_from p.rows 3, three_from p.rows 6)
-
-abbrev pub wide_node : ℕ × ℕ → ℤ × ℤ
-wide_node node = (pos node.0, pos node.1)
-
-abbrev pub wide_nodes : List (ℕ × ℕ) → List (ℤ × ℤ)
-wide_nodes nodes = map wide_node nodes
-
-abbrev pub stated_shape : Shape → StatedShape
-stated_shape (shape.Gradient ax ay dx dy slope) = stated.Gradient (record { ax = pos ax; ay = pos ay; dx = dx; dy = dy; slope = pos slope })
-stated_shape (shape.Ellipse cx cy ux uy a b feather) = stated.Ellipse (record { cx = pos cx; cy = pos cy; ux = ux; uy = uy; a = pos a; b = pos b; feather = pos feather })
-
-abbrev pub stated_blend : Blend → StatedBlend
-stated_blend b = record { opacity = pos b.opacity; mode = b.mode; mask = option_map stated_shape b.mask }
-
--- ---- all settings
+-- ---- modules
 
 abbrev pub module_of : Params → Module
 module_of (params.RawPrepare p) = modules.RawPrepare
@@ -141,70 +35,238 @@ module_of (params.Crop p) = modules.Crop
 module_of (params.Exposure p) = modules.Exposure
 module_of (params.ChannelMixer p) = modules.ChannelMixer
 module_of (params.ToneCurve p) = modules.ToneCurve
+module_of (params.BoxBlur p) = modules.BoxBlur
+module_of (params.Sharpen p) = modules.Sharpen
 
--- every number of the settings, in the order of the checks
+-- whether a module's output may be blended with its input
+abbrev pub blends : Module → Bool
+blends m = (module_row m).blends
+
+-- whether a history may have an item of the module
+abbrev pub takes_item : Module → Bool
+takes_item m = (module_row m).takes_item
+
+-- the newest version of a module's settings, which is the one that is written
+abbrev pub newest_of : Module → ℕ
+newest_of m = (module_row m).newest
+
+-- the old version of a module's settings, if it is one
+abbrev pub old_version : Module → ℕ → Option OldVersion
+old_version modules.Exposure version = only_if (nat_eq version 1) olds.Exposure1
+old_version modules.ToneCurve version = only_if (nat_eq version 1) olds.ToneCurve1
+old_version _ version = None
+
+-- ---- what a part holds, and a number of 0 where it holds another thing
+
+abbrev pub one_of : Part → ℤ
+one_of (one z) = z
+one_of (three t) = pos 0
+one_of (nine t) = pos 0
+one_of (pairs ns) = pos 0
+one_of (flag b) = pos 0
+
+abbrev pub no_three : Triple
+no_three = (pos 0, pos 0, pos 0)
+
+abbrev pub three_of : Part → Triple
+three_of (one z) = no_three
+three_of (three t) = t
+three_of (nine t) = no_three
+three_of (pairs ns) = no_three
+three_of (flag b) = no_three
+
+abbrev pub nine_of : Part → Triple × Triple × Triple
+nine_of (one z) = (no_three, no_three, no_three)
+nine_of (three t) = (no_three, no_three, no_three)
+nine_of (nine t) = t
+nine_of (pairs ns) = (no_three, no_three, no_three)
+nine_of (flag b) = (no_three, no_three, no_three)
+
+abbrev pub pairs_of : Part → List (ℤ × ℤ)
+pairs_of (one z) = []
+pairs_of (three t) = []
+pairs_of (nine t) = []
+pairs_of (pairs ns) = ns
+pairs_of (flag b) = []
+
+abbrev pub flag_of : Part → Bool
+flag_of (one z) = false
+flag_of (three t) = false
+flag_of (nine t) = false
+flag_of (pairs ns) = false
+flag_of (flag b) = b
+
+-- ---- from parts
+
+abbrev pub flag_at : List Part → ℕ → Bool
+flag_at ps i = flag_of (part_at ps i)
+
+abbrev pub natural_at : List Part → ℕ → ℕ
+natural_at ps i = natural_of (one_of (part_at ps i))
+
+abbrev pub signed_at : List Part → ℕ → ℤ
+signed_at ps i = one_of (part_at ps i)
+
+abbrev pub naturals : Triple → List ℕ
+naturals t = natural_of t.0 ∷ natural_of t.1 ∷ natural_of t.2 ∷ []
+
+abbrev pub naturals_at : List Part → ℕ → List ℕ
+naturals_at ps i = naturals (three_of (part_at ps i))
+
+abbrev pub matrix : Triple × Triple × Triple → List ℤ
+matrix t = t.0.0 ∷ t.0.1 ∷ t.0.2 ∷ t.1.0 ∷ t.1.1 ∷ t.1.2 ∷ t.2.0 ∷ t.2.1 ∷ t.2.2 ∷ []
+
+abbrev pub matrix_at : List Part → ℕ → List ℤ
+matrix_at ps i = matrix (nine_of (part_at ps i))
+
+abbrev pub node_of : ℤ × ℤ → ℕ × ℕ
+node_of n = (natural_of n.0, natural_of n.1)
+
+abbrev pub nodes_of : List (ℤ × ℤ) → List (ℕ × ℕ)
+nodes_of ns = map node_of ns
+
+abbrev pub nodes_at : List Part → ℕ → List (ℕ × ℕ)
+nodes_at ps i = nodes_of (pairs_of (part_at ps i))
+
+abbrev pub params_from : Module → List Part → Params
+params_from modules.RawPrepare ps = params.RawPrepare (record { black = naturals_at ps 0; white = natural_at ps 1 })
+params_from modules.Temperature ps = params.Temperature (record { mul = naturals_at ps 0 })
+params_from modules.Demosaic ps = params.Demosaic
+params_from modules.Orientation ps = params.Orientation (record { swap = flag_at ps 0; flip_x = flag_at ps 1; flip_y = flag_at ps 2 })
+params_from modules.Crop ps = params.Crop (record { left = natural_at ps 0; top = natural_at ps 1; right = natural_at ps 2; bottom = natural_at ps 3 })
+params_from modules.Exposure ps = params.Exposure (record { black = signed_at ps 0; gain = natural_at ps 1; stops = signed_at ps 2 })
+params_from modules.ChannelMixer ps = params.ChannelMixer (record { rows = matrix_at ps 0 })
+params_from modules.ToneCurve ps = params.ToneCurve (record { red = nodes_at ps 0; green = nodes_at ps 1; blue = nodes_at ps 2 })
+params_from modules.BoxBlur ps = params.BoxBlur (record { radius = natural_at ps 0 })
+params_from modules.Sharpen ps = params.Sharpen (record { radius = natural_at ps 0; amount = natural_at ps 1 })
+
+abbrev pub old_from : OldVersion → List Part → OldParams
+old_from olds.Exposure1 ps = old.Exposure1 (signed_at ps 0) (natural_at ps 1)
+old_from olds.ToneCurve1 ps = old.ToneCurve1 (nodes_at ps 0)
+
+abbrev pub shape_from : MaskKind → List Part → Shape
+shape_from masks.Gradient ps = shapes.Gradient (natural_at ps 0) (natural_at ps 1) (signed_at ps 2) (signed_at ps 3) (natural_at ps 4)
+shape_from masks.Ellipse ps =
+    shapes.Ellipse (natural_at ps 0) (natural_at ps 1) (signed_at ps 2) (signed_at ps 3) (natural_at ps 4) (natural_at ps 5) (natural_at ps 6)
+
+abbrev pub mask_from : StatedMask → Shape
+mask_from m = shape_from m.0 m.1
+
+abbrev pub blend_from : StatedBlend → Blend
+blend_from s = record { opacity = natural_at s.parts 0; mode = s.mode; mask = option_map mask_from s.mask }
+
+-- ---- to parts
+
+abbrev pub natural : ℕ → Part
+natural n = one (pos n)
+
+abbrev pub wide_three : List ℕ → Triple
+wide_three xs = (pos (slice_index xs 0), pos (slice_index xs 1), pos (slice_index xs 2))
+
+-- the three whole numbers of a list from a place on
+abbrev pub three_from : List ℤ → ℕ → Triple
+three_from xs i = (slice_index_or xs i (pos 0), slice_index_or xs (i + 1) (pos 0), slice_index_or xs (i + 2) (pos 0))
+
+abbrev pub wide_nine : List ℤ → Triple × Triple × Triple
+wide_nine xs = (three_from xs 0, three_from xs 3, three_from xs 6)
+
+abbrev pub curve_part : List (ℕ × ℕ) → Part
+curve_part nodes = pairs (wide_nodes nodes)
+
+abbrev pub parts_of : Params → List Part
+parts_of (params.RawPrepare p) = three (wide_three p.black) ∷ natural p.white ∷ []
+parts_of (params.Temperature p) = three (wide_three p.mul) ∷ []
+parts_of params.Demosaic = []
+parts_of (params.Orientation p) = flag p.swap ∷ flag p.flip_x ∷ flag p.flip_y ∷ []
+parts_of (params.Crop p) = natural p.left ∷ natural p.top ∷ natural p.right ∷ natural p.bottom ∷ []
+parts_of (params.Exposure p) = one p.black ∷ natural p.gain ∷ one p.stops ∷ []
+parts_of (params.ChannelMixer p) = nine (wide_nine p.rows) ∷ []
+parts_of (params.ToneCurve p) = curve_part p.red ∷ curve_part p.green ∷ curve_part p.blue ∷ []
+parts_of (params.BoxBlur p) = natural p.radius ∷ []
+parts_of (params.Sharpen p) = natural p.radius ∷ natural p.amount ∷ []
+
+abbrev pub version_of : OldParams → OldVersion
+version_of (old.Exposure1 black gain) = olds.Exposure1
+version_of (old.ToneCurve1 nodes) = olds.ToneCurve1
+
+abbrev pub old_parts_of : OldParams → List Part
+old_parts_of (old.Exposure1 black gain) = one black ∷ natural gain ∷ []
+old_parts_of (old.ToneCurve1 nodes) = curve_part nodes ∷ []
+
+abbrev pub kind_of : Shape → MaskKind
+kind_of (shapes.Gradient ax ay dx dy slope) = masks.Gradient
+kind_of (shapes.Ellipse cx cy ux uy a b feather) = masks.Ellipse
+
+abbrev pub shape_parts : Shape → List Part
+shape_parts (shapes.Gradient ax ay dx dy slope) = natural ax ∷ natural ay ∷ one dx ∷ one dy ∷ natural slope ∷ []
+shape_parts (shapes.Ellipse cx cy ux uy a b feather) = natural cx ∷ natural cy ∷ one ux ∷ one uy ∷ natural a ∷ natural b ∷ natural feather ∷ []
+
+abbrev pub stated_mask : Shape → StatedMask
+stated_mask shape = (kind_of shape, shape_parts shape)
+
+abbrev pub stated_blend : Blend → StatedBlend
+stated_blend b = record { mode = b.mode; parts = natural b.opacity ∷ []; mask = option_map stated_mask b.mask }
+
+-- arrays are as long as the type's
+abbrev pub IsSized : Params → Type 0
+IsSized (params.RawPrepare p) = length p.black ≡ 3
+IsSized (params.Temperature p) = length p.mul ≡ 3
+IsSized (params.ChannelMixer p) = length p.rows ≡ 9
+IsSized _ = ⊤
+
+-- ---- within the ranges
+
+-- each number of the parts keeps the row's rules
+pub record IsRowKept (row : List Cell) (parts : List Part) : Type 0 where
+  pub fits : Fits row parts
+  pub kept : AllByRecursion IsKept (row_entries row parts)
+
 abbrev pub entries_of : Params → List Entry
-entries_of (params.RawPrepare p) = raw_entries (stated_raw p)
-entries_of (params.Temperature p) = temperature_entries (wide_three p.mul)
-entries_of params.Demosaic = []
-entries_of (params.Orientation p) = []
-entries_of (params.Crop p) = crop_entries (stated_crop p)
-entries_of (params.Exposure p) = exposure_entries (stated_exposure p)
-entries_of (params.ChannelMixer p) = mixer_entries (stated_mixer p)
-entries_of (params.ToneCurve p) = curve_entries field.Nodes (wide_nodes p.nodes)
+entries_of p = row_entries (row_of (module_of p)) (parts_of p)
 
--- ---- within the ranges, each settings type by itself
-
-abbrev pub IsRawWithin : RawPrepare → Type 0
-IsRawWithin p = (length p.black ≡ 3) × AllKept (raw_entries (stated_raw p))
-
-abbrev pub IsTemperatureWithin : Temperature → Type 0
-IsTemperatureWithin p = (length p.mul ≡ 3) × AllKept (temperature_entries (wide_three p.mul))
-
-abbrev pub IsCropWithin : Crop → Type 0
-IsCropWithin p = AllKept (crop_entries (stated_crop p))
-
-abbrev pub IsExposureWithin : Exposure → Type 0
-IsExposureWithin p = AllKept (exposure_entries (stated_exposure p))
-
-abbrev pub IsMixerWithin : ChannelMixer → Type 0
-IsMixerWithin p = (length p.rows ≡ 9) × AllKept (mixer_entries (stated_mixer p))
-
-abbrev pub IsCurveWithin : ToneCurve → Type 0
-IsCurveWithin p = AllKept (curve_entries field.Nodes (wide_nodes p.nodes))
-
--- the settings are within their ranges, and their arrays are as long as the type's
-abbrev pub IsWithin : Params → Type 0
-IsWithin (params.RawPrepare p) = IsRawWithin p
-IsWithin (params.Temperature p) = IsTemperatureWithin p
-IsWithin params.Demosaic = ⊤
-IsWithin (params.Orientation p) = ⊤
-IsWithin (params.Crop p) = IsCropWithin p
-IsWithin (params.Exposure p) = IsExposureWithin p
-IsWithin (params.ChannelMixer p) = IsMixerWithin p
-IsWithin (params.ToneCurve p) = IsCurveWithin p
+pub record IsWithin (p : Params) : Type 0 where
+  pub sized : IsSized p
+  pub kept : AllByRecursion IsKept (entries_of p)
 
 -- the first number outside its range
 abbrev pub check_of : Params → Result ⊤ ParamFault
 check_of p = first_fault (entries_of p)
 
-abbrev pub blends : Module → Bool
-blends modules.RawPrepare = false
-blends modules.Temperature = false
-blends modules.Demosaic = false
-blends modules.Orientation = false
-blends modules.Crop = false
-blends modules.Exposure = true
-blends modules.ChannelMixer = true
-blends modules.ToneCurve = true
+-- ---- old versions
+
+-- the settings that mean the same as those of an old version
+abbrev pub migrated : OldParams → Params
+migrated (old.Exposure1 black gain) = params.Exposure (record { black = black; gain = gain; stops = pos 0 })
+migrated (old.ToneCurve1 nodes) = params.ToneCurve (record { red = nodes; green = nodes; blue = nodes })
+
+abbrev pub old_entries_of : OldParams → List Entry
+old_entries_of p = row_entries (old_row_of (version_of p)) (old_parts_of p)
+
+pub record IsOldWithin (p : OldParams) : Type 0 where
+  pub kept : AllByRecursion IsKept (old_entries_of p)
+
+-- the first number outside the old ranges
+abbrev pub check_old_of : OldParams → Result ⊤ ParamFault
+check_old_of p = first_fault (old_entries_of p)
+
+-- ---- blends
+
+-- what is stated for a mask has the fields of its row, each within its range
+abbrev pub IsMaskKept : StatedMask → Type 0
+IsMaskKept m = IsRowKept (mask_row_of m.0) m.1
+
+-- what is stated for a blend has the fields of its rows, each within its range
+pub record IsBlendKept (s : StatedBlend) : Type 0 where
+  pub row : IsRowKept blend_row s.parts
+  pub mask : IfSome s.mask IsMaskKept
 
 -- a mask is within its ranges
-abbrev pub IsShapeWithin : Shape → Type 0
-IsShapeWithin s = AllKept (mask_entries (Some (stated_shape s)))
+pub record IsShapeWithin (s : Shape) : Type 0 where
+  pub kept : AllByRecursion IsKept (mask_entries (Some (stated_mask s)))
 
 -- a blend is within its ranges, whatever its module
-abbrev pub IsBlendWithin : Blend → Type 0
-IsBlendWithin b = AllKept (blend_entries (stated_blend b))
+pub record IsBlendWithin (b : Blend) : Type 0 where
+  pub kept : AllByRecursion IsKept (blend_entries (stated_blend b))
 
 -- a module's blend: there is none, or the module blends and the blend is within its ranges
 abbrev pub IsBlendFit : Module → Option Blend → Type 0
@@ -212,9 +274,47 @@ IsBlendFit m None = ⊤
 IsBlendFit m (Some b) = IsTrue (blends m) × IsBlendWithin b
 
 abbrev pub blend_fault : ParamFault
-blend_fault = record { field = field.Blend; at = 0; value = pos 0 }
+blend_fault = record { field = fields.Blend; at = 0; value = pos 0 }
 
 -- the first fault of a blend at a module
 abbrev pub check_blend_of : Module → Option Blend → Result ⊤ ParamFault
 check_blend_of m None = Ok tt
 check_blend_of m (Some b) = if blends m then first_fault (blend_entries (stated_blend b)) else Err blend_fault
+
+-- ---- ranges of cells
+
+abbrev pub is_range : ℤ → ℤ → List Cell → ℕ → Bool
+is_range low high [] i = false
+is_range low high (c ∷ cs) zero = int_le low c.low && int_le c.high high
+is_range low high (c ∷ cs) (suc i) = is_range low high cs i
+
+abbrev pub IsNatural : List Cell → ℕ → Type 0
+IsNatural row i = IsTrue (is_range (pos 0) (pos 4294967295) row i)
+
+abbrev pub IsSigned : List Cell → ℕ → Type 0
+IsSigned row i = IsTrue (is_range (negsuc 2147483647) (pos 2147483647) row i)
+
+-- a number from one to another
+abbrev pub IsIn : ℤ → ℤ → ℤ → Type 0
+IsIn low high z = (low ≤ℤ z) × (z ≤ℤ high)
+
+abbrev pub IsInput : ℤ × ℤ → Type 0
+IsInput n = IsIn (pos 0) (pos 1048575) n.0 × IsIn (pos 0) (pos 1048575) n.1
+
+abbrev pub AreInputs : List (ℤ × ℤ) → Type 0
+AreInputs ns = AllByRecursion IsInput ns
+
+abbrev pub AreIn : ℤ → ℤ → Triple → Type 0
+AreIn low high t = IsIn low high t.0 × IsIn low high t.1 × IsIn low high t.2
+
+abbrev pub IsU32 : ℤ → Type 0
+IsU32 z = IsIn (pos 0) (pos 4294967295) z
+
+abbrev pub IsI32 : ℤ → Type 0
+IsI32 z = IsIn (negsuc 2147483647) (pos 2147483647) z
+
+abbrev pub AreU32 : Triple → Type 0
+AreU32 t = AreIn (pos 0) (pos 4294967295) t
+
+abbrev pub AreI32 : Triple × Triple × Triple → Type 0
+AreI32 t = AreIn (negsuc 2147483647) (pos 2147483647) t.0 × AreIn (negsuc 2147483647) (pos 2147483647) t.1 × AreIn (negsuc 2147483647) (pos 2147483647) t.2

@@ -1,7 +1,8 @@
 //! The range of the nodes of a tone curve.
 ghost use Rattle.std.specs.Prelude.{◌≡◌, ◌∷◌, [], ◌≤◌, ◌<◌, ◌^◌, pos, negsuc, length, OnOk};
 ghost use Rattle.params.specs.Rules.{first_fault, AllKept};
-ghost use Rattle.params.specs.Ranges.{node_entries, nodes_entries, curve_entries, count_entry, wide_nodes};
+ghost use Rattle.params.specs.Stated.{node_entries, nodes_entries, curve_entries, count_entry};
+ghost use Rattle.params.specs.Seen.{wide_nodes};
 
 use crate::fault::{Field, ParamFault};
 use crate::rules::{Entry, Rule, first_fault};
@@ -58,4 +59,26 @@ pub(crate) fn curve_fault(field: Field, nodes: &[(u32, u32)]) -> Result<(), Para
 {
     count_fault(field, nodes.len())?;
     nodes_fault(field, nodes)
+}
+
+fn wide_nodes_fault(field: Field, nodes: &[(i64, i64)]) -> Result<(), ParamFault>
+    requires { length nodes.now ≤ 20 }
+    ensures { result ≡ first_fault (nodes_entries field 0 (negsuc 0) nodes.now) }
+{
+    let mut at = 0;
+    let mut before = -1;
+    for node in nodes {
+        node_fault(field, at, before, *node)?;
+        at += 1;
+        before = node.0;
+    }
+    Ok(())
+}
+
+/// The same of nodes as they are stated.
+pub(crate) fn pairs_fault(field: Field, nodes: &[(i64, i64)]) -> Result<(), ParamFault>
+    ensures { result ≡ first_fault (curve_entries field nodes.now) }
+{
+    count_fault(field, nodes.len())?;
+    wide_nodes_fault(field, nodes)
 }

@@ -7,7 +7,7 @@ ghost use Rattle.params.specs.Form.{has_only, only, is_one_of, integer, natural,
 use serde_json::{Map, Value};
 
 /// Whether the key is one of those.
-fn is_one_of(key: &str, keys: &[&str]) -> bool
+pub(crate) fn is_one_of(key: &str, keys: &[&str]) -> bool
     ensures { result ≡ is_one_of key.now (map (λ k. k.now) keys.now) }
 {
     for each in keys {

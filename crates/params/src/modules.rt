@@ -1,7 +1,17 @@
 ghost use Rattle.std.specs.Prelude.{◌≡◌, Some};
 ghost use Rattle.params.specs.Names.{name_of_module, module_named, number_of};
+ghost use Rattle.params.specs.Ranges.{blends, takes_item, newest_of};
+ghost use Rattle.params.specs.Seen.{module_seen};
+ghost use Rattle.params.specs.Table.{module_row, row_of, all_modules};
 
-/// What edits a picture. A module instance is one of these with a number that tells instances apart.
+use crate::row::Cell;
+use crate::rows::{
+    BOX_BLUR, CHANNEL_MIXER, CROP, DEMOSAIC, EXPOSURE, ORIENTATION, RAW_PREPARE, SHARPEN,
+    TEMPERATURE, TONE_CURVE,
+};
+
+/// What edits a picture. A module instance is one of these with a number that tells instances apart. The
+/// first eight stand in the start order.
 #[derive(Clone, Copy, Debug, PartialEq, Eq, Hash)]
 pub enum Module {
     RawPrepare,
@@ -12,40 +22,111 @@ pub enum Module {
     Exposure,
     ChannelMixer,
     ToneCurve,
+    BoxBlur,
+    Sharpen,
+}
+
+/// The modules, by their numbers.
+const MODULES: [Module; 10] = [
+    Module::RawPrepare,
+    Module::Temperature,
+    Module::Demosaic,
+    Module::Orientation,
+    Module::Crop,
+    Module::Exposure,
+    Module::ChannelMixer,
+    Module::ToneCurve,
+    Module::BoxBlur,
+    Module::Sharpen,
+];
+
+/// What is known of a module: its number, its name in scripts, the newest version of its settings,
+/// whether its output may be blended with its input, whether a history may have an item of it, and the
+/// fields of its settings.
+#[derive(Clone, Copy)]
+pub(crate) struct ModuleRow {
+    pub number: u8,
+    pub name: &'static str,
+    pub newest: u32,
+    pub blends: bool,
+    pub takes_item: bool,
+    pub cells: &'static [Cell],
+}
+
+macro_rules! row {
+    ($number:expr, $name:expr, $newest:expr, $blends:expr, $takes_item:expr, $cells:expr) => {
+        ModuleRow {
+            number: $number,
+            name: $name,
+            newest: $newest,
+            blends: $blends,
+            takes_item: $takes_item,
+            cells: $cells,
+        }
+    };
 }
 
 impl Module {
-    /// The module's place in the list of modules, 0 to 7.
-    pub fn number(self) -> u8
-        ensures value { result ≡ number_of self }
+    /// The module's row of the table.
+    pub(crate) fn row(self) -> ModuleRow
+        ensures { module_seen result ≡ module_row self }
     {
         match self {
-            Module::RawPrepare => 0,
-            Module::Temperature => 1,
-            Module::Demosaic => 2,
-            Module::Orientation => 3,
-            Module::Crop => 4,
-            Module::Exposure => 5,
-            Module::ChannelMixer => 6,
-            Module::ToneCurve => 7,
+            Module::RawPrepare => row!(0, "rawprepare", 1, false, true, &RAW_PREPARE),
+            Module::Temperature => row!(1, "temperature", 1, false, true, &TEMPERATURE),
+            Module::Demosaic => row!(2, "demosaic", 1, false, false, &DEMOSAIC),
+            Module::Orientation => row!(3, "orientation", 1, false, true, &ORIENTATION),
+            Module::Crop => row!(4, "crop", 1, false, true, &CROP),
+            Module::Exposure => row!(5, "exposure", 2, true, true, &EXPOSURE),
+            Module::ChannelMixer => row!(6, "channelmixer", 1, true, true, &CHANNEL_MIXER),
+            Module::ToneCurve => row!(7, "tonecurve", 2, true, true, &TONE_CURVE),
+            Module::BoxBlur => row!(8, "boxblur", 1, true, true, &BOX_BLUR),
+            Module::Sharpen => row!(9, "sharpen", 1, true, true, &SHARPEN),
         }
     }
 
+    /// The fields of the module's settings.
+    pub(crate) fn cells(self) -> &'static [Cell]
+        ensures { result.now ≡ row_of self }
+    {
+        self.row().cells
+    }
+
+    /// The module's place in the list of modules, 0 to 9.
+    pub fn number(self) -> u8
+        ensures value { result ≡ number_of self }
+    {
+        self.row().number
+    }
+
     /// The name that scripts give the module.
+    #[tactic(auto, using(crate::proofs::NameLemmas::module_again))]
     pub fn name(self) -> &'static str
         ensures value { result.now ≡ name_of_module self }
         ensures found { module_named result.now ≡ Some self }
     {
-        match self {
-            Module::RawPrepare => "rawprepare",
-            Module::Temperature => "temperature",
-            Module::Demosaic => "demosaic",
-            Module::Orientation => "orientation",
-            Module::Crop => "crop",
-            Module::Exposure => "exposure",
-            Module::ChannelMixer => "channelmixer",
-            Module::ToneCurve => "tonecurve",
-        }
+        self.row().name
+    }
+
+    /// Whether the module's output may be blended with its input.
+    pub fn blends(self) -> bool
+        ensures value { result ≡ blends self }
+    {
+        self.row().blends
+    }
+
+    /// Whether a history may have an item of the module.
+    pub fn takes_item(self) -> bool
+        ensures value { result ≡ takes_item self }
+    {
+        self.row().takes_item
+    }
+
+    /// The newest version of the module's settings, which is the one that is written.
+    pub fn newest(self) -> u32
+        ensures value { result ≡ newest_of self }
+    {
+        self.row().newest
     }
 }
 
@@ -53,15 +134,10 @@ impl Module {
 pub fn module_named(name: &str) -> Option<Module>
     ensures value { result ≡ module_named name.now }
 {
-    match name {
-        "rawprepare" => Some(Module::RawPrepare),
-        "temperature" => Some(Module::Temperature),
-        "demosaic" => Some(Module::Demosaic),
-        "orientation" => Some(Module::Orientation),
-        "crop" => Some(Module::Crop),
-        "exposure" => Some(Module::Exposure),
-        "channelmixer" => Some(Module::ChannelMixer),
-        "tonecurve" => Some(Module::ToneCurve),
-        _ => None,
+    for module in MODULES {
+        if name == module.name() {
+            return Some(module);
+        }
     }
+    None
 }

@@ -1,4 +1,4 @@
-ghost use Rattle.std.specs.Prelude.{◌≡◌, IfOk};
+ghost use Rattle.std.specs.Prelude.{◌≡◌, IfOk, IsOk};
 
 use crate::modules::Module;
 use crate::nodes::Nodes20;
@@ -37,11 +37,12 @@ pub struct Crop {
 }
 
 /// `black` -65,535 to 65,535 is taken away, then the value is multiplied by `gain` in 1/4096, 0 to
-/// 65,536.
+/// 65,536, and by 2 to the power `stops`, -4 to 4.
 #[derive(Clone, Copy, Debug, PartialEq, Eq, Hash)]
 pub struct Exposure {
     pub black: i32,
     pub gain: u32,
+    pub stops: i32,
 }
 
 /// A matrix in 1/4096, row by row, a row for each channel that comes out: each entry -32,768 to 32,768.
@@ -50,14 +51,30 @@ pub struct ChannelMixer {
     pub rows: [i32; 9],
 }
 
-/// A curve through 2 to 20 nodes, each number 0 to 1,048,575, whose first numbers rise.
-#[derive(Debug, PartialEq, Eq, Hash, Drop)]
+/// A curve for each channel, through 2 to 20 nodes, each number 0 to 1,048,575, whose first numbers
+/// rise.
+#[derive(Clone, Copy, Debug, PartialEq, Eq, Hash)]
 pub struct ToneCurve {
-    pub nodes: Nodes20,
+    pub red: Nodes20,
+    pub green: Nodes20,
+    pub blue: Nodes20,
 }
 
-/// The settings of one module. Demosaic has none.
-#[derive(Debug, PartialEq, Eq, Hash, Drop)]
+/// The mean of the square of `radius` source pixels to each side, 1 to 64.
+#[derive(Clone, Copy, Debug, PartialEq, Eq, Hash)]
+pub struct BoxBlur {
+    pub radius: u32,
+}
+
+/// What a box blur of `radius`, 1 to 64, takes away is added `amount` times in 1/4096, 0 to 16,384.
+#[derive(Clone, Copy, Debug, PartialEq, Eq, Hash)]
+pub struct Sharpen {
+    pub radius: u32,
+    pub amount: u32,
+}
+
+/// The settings of one module. Demosaic has none. They own no memory.
+#[derive(Clone, Copy, Debug, PartialEq, Eq, Hash)]
 pub enum Params {
     RawPrepare(RawPrepare),
     Temperature(Temperature),
@@ -67,6 +84,8 @@ pub enum Params {
     Exposure(Exposure),
     ChannelMixer(ChannelMixer),
     ToneCurve(ToneCurve),
+    BoxBlur(BoxBlur),
+    Sharpen(Sharpen),
 }
 
 impl Params {
@@ -85,24 +104,16 @@ impl Params {
             Params::Exposure(_) => Module::Exposure,
             Params::ChannelMixer(_) => Module::ChannelMixer,
             Params::ToneCurve(_) => Module::ToneCurve,
+            Params::BoxBlur(_) => Module::BoxBlur,
+            Params::Sharpen(_) => Module::Sharpen,
         }
     }
 }
 
-/// The same settings once more.
-pub fn copy(alloc: Global, params: &Params) -> Result<Params, AllocError>
+/// The same settings once more. Settings own no memory, so this never fails: `*params` is the same.
+pub fn copy(_alloc: Global, params: &Params) -> Result<Params, AllocError>
     ensures value { IfOk result (λ p. p ≡ params.now) }
+    ensures ok { IsOk result }
 {
-    Ok(match params {
-        Params::RawPrepare(raw) => Params::RawPrepare(*raw),
-        Params::Temperature(temperature) => Params::Temperature(*temperature),
-        Params::Demosaic => Params::Demosaic,
-        Params::Orientation(orientation) => Params::Orientation(*orientation),
-        Params::Crop(crop) => Params::Crop(*crop),
-        Params::Exposure(exposure) => Params::Exposure(*exposure),
-        Params::ChannelMixer(mixer) => Params::ChannelMixer(*mixer),
-        Params::ToneCurve(curve) => Params::ToneCurve(ToneCurve {
-            nodes: curve.nodes.copy(alloc)?,
-        }),
-    })
+    Ok(*params)
 }

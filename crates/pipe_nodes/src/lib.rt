@@ -11,21 +11,15 @@ mod prefix;
 mod render;
 mod run;
 mod show;
-mod source;
-#[cfg(test)]
-mod stage_tests;
 mod staged;
 mod steps;
-#[cfg(test)]
-mod tests;
 
-pub use active::{Active, are_built};
+pub use active::Active;
 pub use counting::active_count;
-pub use gather::{actives, is_built_item};
+pub use gather::{actives, is_plain_item};
 pub use piece::{Piece, commit};
 pub use prefix::Prefix;
 pub use run::{shown_bytes, uncached};
 pub use show::{Show, Window};
-pub use source::Source;
 pub use staged::Staged;
 pub use steps::Steps;

@@ -1,13 +1,15 @@
-//! Netpbm pictures: the bytes of a P6 read as a plane, and a plane written as the bytes of a P6.
+//! Netpbm pictures: the bytes of a P5 or P6 read as a plane, and a plane written as the bytes of a P6.
 #![tactic(auto)]
 
+mod decoding;
 mod fault;
 mod header;
+mod laws;
 mod reading;
-#[cfg(test)]
-mod tests;
+mod words;
 mod writing;
 
 pub use fault::{PnmEnd, PnmFault, PnmKind};
+pub use laws::written_is_read;
 pub use reading::read;
 pub use writing::write;

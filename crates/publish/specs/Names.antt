@@ -4,13 +4,14 @@ use Rattle.std.specs.Fmt.{decimal}
 use Rattle.outside.specs.declared.job_name.JobName.{JobName}
 use Rattle.outside.specs.declared.job_name.JobName.TheVariants as job
 use Rattle.outside.specs.declared.job_name.Pipe.{Pipe}
-use Rattle.outside.specs.declared.job_name.Pipe.TheVariants.{Full, Preview}
+use Rattle.outside.specs.declared.job_name.Pipe.TheVariants.{Full, Preview, Second}
 use Rattle.dev_core.specs.declared.entry.Entry.{Entry}
 use Rattle.dev_core.specs.declared.entry.Entry.TheVariants.{Changed, Closed, Took, Restarted, Published, GaveBack}
 
 abbrev pub pipe_word : Pipe → List ℕ
 pipe_word Full = codes "full"
 pipe_word Preview = codes "preview"
+pipe_word Second = codes "second"
 
 -- the file of a pipe's picture at a moment
 abbrev pub pipe_file : Pipe → ℕ → List ℕ

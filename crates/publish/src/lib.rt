@@ -5,8 +5,6 @@ mod listing;
 mod names;
 mod put_end;
 mod putting;
-#[cfg(test)]
-mod tests;
 
 pub use listing::manifest;
 pub use names::file_name;

@@ -15,6 +15,7 @@ pub(crate) fn pipe_word(pipe: Pipe) -> &'static str
     match pipe {
         Pipe::Full => "full",
         Pipe::Preview => "preview",
+        Pipe::Second => "second",
     }
 }
 

@@ -12,4 +12,5 @@ pub mod Pixelwise
 pub mod PlaneFields
 pub mod Repainted
 pub mod Rows
+pub mod Trace
 pub mod Sums

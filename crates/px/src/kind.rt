@@ -39,12 +39,10 @@ impl Cfa {
     pub fn colour(self, x: u32, y: u32) -> Colour
         ensures { channel result ≡ channel_at self x y }
     {
-        let at = (x % 2 + 2 * (y % 2)) as usize;
-        match self {
-            Cfa::Rggb => [Colour::R, Colour::G, Colour::G, Colour::B][at],
-            Cfa::Bggr => [Colour::B, Colour::G, Colour::G, Colour::R][at],
-            Cfa::Grbg => [Colour::G, Colour::R, Colour::B, Colour::G][at],
-            Cfa::Gbrg => [Colour::G, Colour::B, Colour::R, Colour::G][at],
+        match self.channel(x, y) {
+            0 => Colour::R,
+            1 => Colour::G,
+            _ => Colour::B,
         }
     }
 

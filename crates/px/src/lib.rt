@@ -16,8 +16,7 @@ mod painting;
 mod plane;
 mod region;
 mod row_painter;
-#[cfg(test)]
-mod tests;
+mod trace;
 mod view;
 
 pub use banding::{BandFiller, fill_bands, paint_bands};
@@ -30,6 +29,7 @@ pub use painting::{paint, paint_in_turn};
 pub use plane::Plane;
 pub use region::Region;
 pub use row_painter::{ByPixel, ByValue, RowPainter};
+pub use trace::Trace;
 pub use view::{BoxSize, View};
 
 /// The greatest value of a sample. White stands at `WHITE`; what is above it is kept for later

@@ -11,8 +11,6 @@ mod machine;
 mod open_run;
 mod outcome;
 mod reading;
-#[cfg(test)]
-mod tests;
 
 pub use event::{Answer, Event, StepEnd};
 pub use fault::{EventReason, EventsEnd, EventsFault};

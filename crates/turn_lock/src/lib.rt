@@ -10,8 +10,6 @@ mod lock;
 mod pass;
 mod plays;
 mod steps;
-#[cfg(test)]
-mod tests;
 mod told;
 mod turn;
 mod view;

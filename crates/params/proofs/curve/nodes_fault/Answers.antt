@@ -2,7 +2,8 @@ use Rattle.std.proofs.Common.{◌≡◌, arith, refl, sym, ◌∙◌, get_or, []
 use Rattle.std.proofs.lemmas.Grind.{common_steps}
 use Rattle.std.proofs.lemmas.Int.{to_z-of_z}
 use Rattle.std.proofs.lemmas.Result.{err_from_is_err_and}
-use Rattle.params.specs.Ranges.{wide_node, wide_nodes, node_entries}
+use Rattle.params.specs.Stated.{node_entries}
+use Rattle.params.specs.Seen.{wide_node, wide_nodes}
 use Rattle.params.specs.Rules.{first_fault}
 use Rattle.params.proofs.Faults.{nodes_behind, nodes_here, nodes_done}
 use Rattle.params.proofs.curve.nodes_fault.Goals as goal

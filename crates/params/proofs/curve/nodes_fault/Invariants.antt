@@ -1,5 +1,6 @@
 use Rattle.std.proofs.Common.{◌≡◌, drop}
-use Rattle.params.specs.Ranges.{nodes_entries, wide_nodes}
+use Rattle.params.specs.Stated.{nodes_entries}
+use Rattle.params.specs.Seen.{wide_nodes}
 use Rattle.params.specs.Rules.{first_fault}
 use Rattle.std.proofs.Common.{negsuc}
 use Rattle.params.proofs.curve.nodes_fault.Given as goal

@@ -1,5 +1,5 @@
 use Rattle.std.proofs.Common.{◌≡◌, ◌+◌, ◌∷◌, ◌∙◌, suc, drop, sym, ap, subst, cond, arith, drop-cons}
-use Rattle.edit_steps.specs.Changes.{is_change}
+use Rattle.edit_steps.specs.Changes.{is_change, first_histories}
 use Rattle.edit_steps.specs.Script.{Recipe, recipe}
 use Rattle.edit_steps.proofs.KeptLemmas.{IsOnTheWay, IsOnTheWay-start, IsOnTheWay-on}
 use Rattle.edit_steps.proofs.script.Script.history_at.Goals.{then-is_change, else-is_change}
@@ -10,9 +10,10 @@ loop-step-init c =
     let s = c.self.inside in
     let r = recipe s.settings s.opening s.steps.items in
     let start = IsOnTheWay-start r c.args.m c.self.invariant.script in
-    let copied = subst (λ h. IsOnTheWay r c.args.m h r.steps c.args.m) (sym c.in_ok-history.ensures) start in
-    let seen = subst (λ steps. IsOnTheWay r c.args.m c.in_ok-history.history steps c.args.m) (sym c.deref-step-items.ensures.value) copied in
-    subst (λ (q : Recipe). IsOnTheWay q c.args.m c.in_ok-history.history c.deref-step-items.result.now c.args.m) c.self.view_is seen
+    let first : c.in_ok-histories.histories ≡ first_histories s.settings s.opening = c.in_ok-histories.ensures ∙ ap (λ h. first_histories s.settings h) c.in_ok-present.ensures in
+    let begun = subst (λ hs. IsOnTheWay r c.args.m hs r.steps c.args.m) (sym first) start in
+    let seen = subst (λ steps. IsOnTheWay r c.args.m c.in_ok-histories.histories steps c.args.m) (sym c.deref-step-items.ensures.value) begun in
+    subst (λ (q : Recipe). IsOnTheWay q c.args.m c.in_ok-histories.histories c.deref-step-items.result.now c.args.m) c.self.view_is seen
 
 pub loop-step-preserved : goal.loop-step-preserved
 loop-step-preserved c =
@@ -21,7 +22,7 @@ loop-step-preserved c =
     let rest = drop (c.loop-step.step-index + 1) items in
     let next : suc c.loop-step.step-index ≡ c.loop-step.step-index + 1 = omega arith in
     let first : drop c.loop-step.step-index items ≡ step ∷ rest = drop-cons items c.loop-step.step-index step (omega (arith, c.loop-step-test.true, c.deref-step-items.ensures.len)) ∙ ap (λ s. s ∷ drop (suc c.loop-step.step-index) items) (sym c.step-item.is) ∙ ap (λ n. step ∷ drop n items) next in
-    let way = subst (λ steps. IsOnTheWay c.args.self.now c.args.m c.loop-step.history steps c.loop-step.left) first c.loop-step.invariant in
+    let way = subst (λ steps. IsOnTheWay c.args.self.now c.args.m c.loop-step.histories steps c.loop-step.left) first c.loop-step.invariant in
     let left : c.loop-step.left ≡ cond (is_change step) (suc c.if-is_change.left) c.if-is_change.left =
     elim c.if-is_change.branch [
       | then-is_change w ↦
@@ -29,4 +30,4 @@ loop-step-preserved c =
           less ∙ ap (λ b. cond b (suc c.if-is_change.left) c.if-is_change.left) (sym w.if-is_change.true ∙ c.is_change.ensures)
       | else-is_change w ↦ sym w.left-is ∙ ap (λ b. cond b (suc c.if-is_change.left) c.if-is_change.left) (sym w.if-is_change.false ∙ c.is_change.ensures)
     ] in
-    IsOnTheWay-on c.args.self.now c.args.m c.loop-step.history c.follow.new.history step rest c.loop-step.left c.if-is_change.left way c.in_ok-follow.ensures.history left
+    IsOnTheWay-on c.args.self.now c.args.m c.loop-step.histories c.follow.new.histories step rest c.loop-step.left c.if-is_change.left way c.in_ok-follow.ensures.histories left

@@ -13,7 +13,7 @@ loop-step-init c =
     let rest = c.into_iter-step-iterator.ensures.into_iter_gives.0 in
     record {
       parts = ap (recipe c.args.settings c.args.opening) (sym rest) ∙ ap (λ (d : Recipe). recipe d.settings d.opening (d.steps ++ into_iter_items c.into_iter-step-iterator.result)) (sym empty);
-      allowed = ap (λ (d : Recipe). steps_fault d.opening [] d.steps) empty;
+      allowed = ap (λ (d : Recipe). steps_fault d.settings d.opening [] d.steps) empty;
     }
 
 pub loop-step-preserved : goal.loop-step-preserved
@@ -30,7 +30,7 @@ returns-in_err-push-clause-answer c =
 pub returns-clause-answer : goal.returns-clause-answer
 returns-clause-answer c =
     let whole = IsFilling-whole (recipe c.args.settings c.args.opening c.args.steps.items) c.loop-step.draft (into_iter_items c.loop-step.step-iterator) c.loop-step.invariant (nil_from_length _ (sym c.loop-step.step-iterator.rest.ok.0 ∙ c.in-None.ensures.steps.0)) in
-    ap (λ (r : Recipe). steps_fault r.opening [] r.steps) whole ∙ c.loop-step.invariant.allowed
+    ap (λ (r : Recipe). steps_fault r.settings r.opening [] r.steps) whole ∙ c.loop-step.invariant.allowed
 
 pub returns-clause-script : goal.returns-clause-script
 returns-clause-script c =

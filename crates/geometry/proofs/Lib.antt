@@ -1,0 +1,3 @@
+pub mod PlaceLemmas
+pub mod TraceLemmas
+pub mod NeededLemmas

@@ -1,0 +1,8 @@
+use Rattle.std.proofs.Common.{◌*◌}
+use Rattle.px.specs.Cut.{value_at}
+use Rattle.px.specs.Painted.{IsRow}
+use Rattle.modules_raw.specs.Rowwise.{IsPixel}
+use Rattle.modules_raw.proofs.mosaic_rows.inner_row.Given as goal
+
+abbrev pub invariant-loop-j : goal.invariant-loop-j
+invariant-loop-j l = IsRow (IsPixel l.p.cfa l.p.w l.p.h (value_at l.p.input.now)) l.x l.y 3 (l.j * 2) l.row

@@ -1,0 +1,97 @@
+ghost use Rattle.std.specs.Prelude.{◌≡◌, ◌∷◌, [], ◌<◌, IfOk};
+ghost use Rattle.px.specs.declared.kind.PlaneKind.TheVariants.{Rgb};
+ghost use Rattle.px.specs.Area.{whole_of};
+ghost use Rattle.pipe_nodes.specs.Active.{IsFit};
+
+use params::{Exposure, Params};
+use pipe_nodes::{Active, Piece, Prefix, Source, Staged, Steps, commit};
+use px::{Plane, PlaneKind, Region};
+use std::alloc::{AllocError, Global};
+use std::marker::Brand;
+use std::sync::Arc;
+use std::sync::ledger::{Blank, Ledger};
+use std::test::Fail;
+use std::thread::Threads;
+
+// Takes 1000 away and doubles.
+fn doubling() -> Active {
+    let params = Params::Exposure(Exposure {
+        black: 1000,
+        gain: 8192,
+        stops: 0,
+    });
+    Active {
+        instance: 0,
+        params,
+        blend: None,
+    }
+}
+
+fn two_pixels(alloc: Global) -> Result<Plane, AllocError>
+    ensures { IfOk result (λ p. p ≡ record { kind = Rgb; w = 2; h = 1; area = whole_of 2 1; values = 0 ∷ 1 ∷ 2 ∷ 1500 ∷ 2000 ∷ 600000 ∷ [] }) }
+{
+    let values = vec![in alloc; 0, 1, 2, 1500, 2000, 600_000]?;
+    Ok(Plane::from_rows(PlaneKind::Rgb, 2, 1, Region::whole(2, 1), values))
+}
+
+// Commits in a ledger of its own.
+fn committed<L: Ledger>(alloc: Global, active: &Active, blank: Blank) -> Result<Piece, AllocError>
+    requires fit { IsFit active.now }
+    requires name { blank.name ≡ L.name }
+    requires parts { blank.parts ≡ L.parts }
+    requires some { 0 < blank.parts }
+    ensures { IfOk result (λ p. p ≡ active.now) }
+{
+    let mut steps = Steps::<L>::start(blank);
+    commit(alloc, active, &mut steps)
+}
+
+// That values of the type may be shared between threads.
+fn cross_threads<T: Send + Sync>(_: &T) {}
+
+// The second pixel of what the instance makes of two pixels, where a run can apply it.
+fn second_pixel<R: Threads + Sync>(
+    rt: &R,
+    alloc: Global,
+    active: &Active,
+) -> Result<Option<Plane>, AllocError> {
+    let Some(region) = Region::new(1, 0, 1, 1) else {
+        return Ok(None);
+    };
+    if !active.is_fit() || !active.is_built() {
+        return Ok(None);
+    }
+    let source = Arc::new(alloc, Source::of(two_pixels(alloc)?))?;
+    let prefix = Prefix::start(alloc, 0)?;
+    let stage = Staged::of(alloc, prefix, two_pixels(alloc)?, source)?;
+    let piece = committed::<Brand>(alloc, active, Blank::new(1))?;
+    cross_threads(&stage);
+    cross_threads(&piece);
+    Ok(Some(piece.render(rt, alloc, &stage, region)?))
+}
+
+// 600000 - 1000, doubled, is above the greatest value.
+#[test]
+fn a_piece_renders_a_region_of_its_output(rt: HostRuntime) -> Result<(), Fail> {
+    let made = second_pixel(&rt, rt.alloc(), &doubling())?;
+    let plane = made.expect(&rt, "a built piece");
+    assert_eq!(rt; plane.values(), [1000, 2000, 1_048_575].as_slice());
+    Ok(())
+}
+
+#[test]
+fn a_shared_prefix_is_equal_and_a_longer_one_is_not(rt: HostRuntime) -> Result<(), Fail> {
+    let alloc = rt.alloc();
+    let active = doubling();
+    if !active.is_fit() {
+        return Ok(());
+    }
+    let start = Prefix::start(alloc, 3)?;
+    let longer = start.then(alloc, &active)?;
+    cross_threads(&longer);
+    assert!(rt; longer == longer.share()?);
+    assert!(rt; longer != start);
+    assert_eq!(rt; (longer.len(), longer.level()), (1, 3));
+    assert_eq!(rt; *longer.at(0), active);
+    Ok(())
+}

@@ -1,6 +1,0 @@
-use Rattle.std.proofs.Common.{◌≡◌}
-use Rattle.turn_lock.specs.Known.{IsIdle}
-use Rattle.turn_lock.proofs.tests.write_many.Given as goal
-
-abbrev pub invariant-loop-text : goal.invariant-loop-text
-invariant-loop-text g l = IsIdle l.lock.id l.pass × (l.pass.number ≡ l.initial.pass.number)

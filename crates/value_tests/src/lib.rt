@@ -1,0 +1,30 @@
+//! The tests of the values: what no clause of their crates says, by public calls. A crate without
+//! tests of its own is proved once.
+#![tactic(auto)]
+
+#[cfg(test)]
+mod curve_tests;
+#[cfg(test)]
+mod geometry_tests;
+#[cfg(test)]
+mod history_tests;
+#[cfg(test)]
+mod local_modules_tests;
+#[cfg(test)]
+mod mixer_tests;
+#[cfg(test)]
+mod module_order_tests;
+#[cfg(test)]
+mod modules_colour_tests;
+#[cfg(test)]
+mod modules_raw_tests;
+#[cfg(test)]
+mod outside_tests;
+#[cfg(test)]
+mod pnm_tests;
+#[cfg(test)]
+mod px_tests;
+#[cfg(test)]
+mod turn_lock_tests;
+#[cfg(test)]
+mod undo_stack_tests;
