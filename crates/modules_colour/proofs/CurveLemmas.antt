@@ -4,6 +4,7 @@ use Rattle.std.specs.Cmp.{unsigned_Decides, first_so, second_so}
 use Rattle.std.specs.Cmp.Lexicographic.{pointwise_decides}
 use Rattle.std.specs.Bool.{IsTrue}
 use Rattle.params.specs.Nodes.{same_node, same_nodes}
+use Rattle.params.specs.declared.settings.ToneCurve.{ToneCurve}
 use Rattle.px.specs.declared.kind.PlaneKind.TheVariants.{Rgb}
 use Rattle.px.specs.Area.{Area, HasPixel, Covers}
 use Rattle.px.specs.Cut.{Cut, IsCutOf, value_at, rgb_at}
@@ -12,15 +13,15 @@ use Rattle.px.specs.Painted.{IsPainted}
 use Rattle.px.specs.Pixelwise.{made_of}
 use Rattle.px.proofs.PaintedLemmas.{cut_of_rgb, pixel_of_part}
 use Rattle.modules_colour.proofs.MixLemmas.{three_tops}
-use Rattle.modules_colour.specs.Curving.{Curves, Tables, IsTable, IsTableOf, curved, curved_picture, looked_up}
+use Rattle.modules_colour.specs.Curving.{Tables, IsTable, IsTableOf, curved, curved_picture, looked_up}
 
 -- what the tables say of a pixel is what the curves make of it
-curved_pixel : (t : Curves) (tables : Tables) (v : ℕ → ℕ) → IsTableOf t tables → ((c : ℕ) → v c ≤ 1048575)
+curved_pixel : (t : ToneCurve) (tables : Tables) (v : ℕ → ℕ) → IsTableOf t tables → ((c : ℕ) → v c ≤ 1048575)
     → made_of (looked_up tables) v ≡ curved t.red (v 0) ∷ curved t.green (v 1) ∷ curved t.blue (v 2) ∷ []
 curved_pixel t tables v table top = rw (table.red.same (v 0) (top 0), table.green.same (v 1) (top 1), table.blue.same (v 2) (top 2)) refl
 
 -- a plane of pixels that were looked up is the cut of the picture that went through the curves
-pub curved_cut : (t : Curves) (tables : Tables) (q : Picture) (w h : ℕ) (a : Area) (input p : Cut) → w ≡ input.w → h ≡ input.h → input.kind ≡ Rgb → Covers input.area a
+pub curved_cut : (t : ToneCurve) (tables : Tables) (q : Picture) (w h : ℕ) (a : Area) (input p : Cut) → w ≡ input.w → h ≡ input.h → input.kind ≡ Rgb → Covers input.area a
     → ((i : ℕ) → slice_index input.values i ≤ 1048575) → IsTableOf t tables → IsCutOf q input
     → IsPainted Rgb w h a (λ x y r. r ≡ made_of (looked_up tables) (value_at input x y)) p → IsCutOf (curved_picture t q) p
 curved_cut t tables q w h a input p w_is h_is rgb covers top table part painted =

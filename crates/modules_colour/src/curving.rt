@@ -1,10 +1,11 @@
 ghost use Rattle.std.specs.Prelude.{◌≡◌, ◌≤◌, ◌*◌, ℕ, List, IfOk, slice_index, length};
+ghost use Rattle.params.specs.declared.settings.ToneCurve.{ToneCurve};
 ghost use Rattle.px.specs.declared.kind.PlaneKind.TheVariants.{Rgb};
 ghost use Rattle.px.specs.Area.{Covers};
 ghost use Rattle.px.specs.Cut.{IsCutOf};
 ghost use Rattle.px.specs.Picture.{Picture};
 ghost use Rattle.px.specs.Pixelwise.{IsMadeRow};
-ghost use Rattle.modules_colour.specs.Curving.{Curves, IsTable, IsTableOf, curved_picture, looked_up};
+ghost use Rattle.modules_colour.specs.Curving.{IsTable, IsTableOf, curved_picture, looked_up};
 
 use crate::curve_table::CurveTable;
 use px::{Plane, PlaneKind, Region, RowPainter, paint, paint_in_turn};
@@ -41,6 +42,7 @@ struct CurveRows<'a> {
 
 impl<'a> RowPainter for CurveRows<'a> {
     ghost use Rattle.std.specs.Prelude.{◌≡◌};
+    ghost use Rattle.params.specs.declared.settings.ToneCurve.{ToneCurve};
     ghost use Rattle.px.specs.declared.kind.PlaneKind.TheVariants.{Rgb};
     ghost use Rattle.px.specs.Area.{HasPixel};
     ghost use Rattle.px.specs.Cut.{value_at};
@@ -75,7 +77,7 @@ pub fn curve<R: Threads + Sync>(
     requires rgb { input.now.kind ≡ Rgb }
     requires covers { Covers input.now.area region }
     ensures area { IfOk result (λ p. p.area ≡ region) }
-    ensures cut { IfOk result (λ p. (params : Curves) (q : Picture) → IsTableOf params table.now → IsCutOf q input.now → IsCutOf (curved_picture params q) p) }
+    ensures cut { IfOk result (λ p. (params : ToneCurve) (q : Picture) → IsTableOf params table.now → IsCutOf q input.now → IsCutOf (curved_picture params q) p) }
 {
     let (w, h) = input.sides();
     let painter = CurveRows {
@@ -97,7 +99,7 @@ pub fn curve_in_turn(
     requires rgb { input.now.kind ≡ Rgb }
     requires covers { Covers input.now.area region }
     ensures area { IfOk result (λ p. p.area ≡ region) }
-    ensures cut { IfOk result (λ p. (params : Curves) (q : Picture) → IsTableOf params table.now → IsCutOf q input.now → IsCutOf (curved_picture params q) p) }
+    ensures cut { IfOk result (λ p. (params : ToneCurve) (q : Picture) → IsTableOf params table.now → IsCutOf q input.now → IsCutOf (curved_picture params q) p) }
 {
     let (w, h) = input.sides();
     let painter = CurveRows {
