@@ -25,7 +25,7 @@ use crate::tally::{Tally, replayed_line};
 use dev_core::Subject;
 use edit_steps::Script;
 use outside::{Said, Shelf};
-use pipe_nodes::Source;
+use modules_raw::Source;
 use publish::write_all;
 use px::Plane;
 use std::alloc::{AllocError, Global};

@@ -6,6 +6,7 @@ use Rattle.std.proofs.lemmas.Int.{ints}
 use Rattle.params.specs.declared.settings.Crop.{Crop}
 use Rattle.params.specs.declared.settings.Params.{Params}
 use Rattle.params.specs.declared.settings.Params.TheVariants as params
+use Rattle.params.specs.Each.{IsCropWithin}
 use Rattle.params.specs.Ranges.{IsWithin}
 use Rattle.px.specs.Area.{Area, Fits}
 use Rattle.geometry.specs.Sides.{IsPixelOf, kept_from, kept_to, kept_area, sides_after, mirrored, pixel_before, sides_behind, place_behind}
@@ -36,7 +37,7 @@ pub record IsPart (c : Crop) : Type 0 where
   pub right : c.right ≤ 65536
   pub bottom : c.bottom ≤ 65536
 
-pub is_part : (c : Crop) → IsWithin (params.Crop c) → IsPart c
+pub is_part : (c : Crop) → IsCropWithin c → IsPart c
 is_part c within =
     let k = within.kept in
     record { left = omega (arith, ints, k.0.1); top = omega (arith, ints, k.1.0.1); right = omega (arith, ints, k.1.1.0.1); bottom = omega (arith, ints, k.1.1.1.1.0.1) }

@@ -1,6 +1,5 @@
 ghost use Rattle.std.specs.Prelude.{◌≡◌, ◌+◌, ◌-◌, ◌<◌, ◌≤◌};
-ghost use Rattle.params.specs.declared.settings.Params.TheVariants.{Crop as crop_params};
-ghost use Rattle.params.specs.Ranges.{IsWithin};
+ghost use Rattle.params.specs.Each.{IsCropWithin};
 ghost use Rattle.px.specs.Area.{Fits, IsIn};
 ghost use Rattle.geometry.specs.Sides.{kept_from, kept_to, kept_area};
 
@@ -25,7 +24,7 @@ fn kept_of(from: u32, to: u32, side: u32) -> (u32, u32)
 
 // The region of a picture that a crop keeps.
 pub(crate) fn kept_region(crop: &Crop, w: u32, h: u32) -> Region
-    requires within { IsWithin (crop_params crop.now) }
+    requires within { IsCropWithin crop.now }
     requires sides { Fits 0 0 w h }
     ensures region { result ≡ kept_area crop.now (w, h) }
     ensures valid { Fits result.x result.y result.w result.h }

@@ -1,6 +1,7 @@
 //! Where one module's pixels come from, as a trace.
 ghost use Rattle.std.specs.Prelude.{◌≡◌, ℕ, ◌<◌, ◌≤◌, if◌then◌else◌};
-ghost use Rattle.params.specs.declared.settings.Params.TheVariants.{Crop as crop_params, Orientation as orientation_params};
+ghost use Rattle.params.specs.declared.settings.Params.TheVariants.{Orientation as orientation_params};
+ghost use Rattle.params.specs.Each.{IsCropWithin};
 ghost use Rattle.params.specs.Ranges.{IsWithin};
 ghost use Rattle.px.specs.Area.{Fits};
 ghost use Rattle.px.specs.Trace.{Traces, TracesWithin};
@@ -54,7 +55,7 @@ fn turned(orientation: &Orientation, w: u32, h: u32) -> Trace
 
 // The trace of a crop, over an input of sides `w` and `h`.
 fn cropped(crop: &Crop, w: u32, h: u32) -> Trace
-    requires within { IsWithin (crop_params crop.now) }
+    requires within { IsCropWithin crop.now }
     requires sides { Fits 0 0 w h }
     ensures { result ≡ straight (kept_area crop.now (w, h)).x (kept_area crop.now (w, h)).y 0 }
 {

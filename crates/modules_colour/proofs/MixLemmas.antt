@@ -4,7 +4,7 @@ use Rattle.std.specs.Prelude.{ℤ, pos, negsuc, ◌+ℤ◌, ◌*ℤ◌, ◌≤�
 use Rattle.std.proofs.lemmas.Int.{ints}
 use Rattle.std.proofs.lemmas.List.{get_or_past}
 use Rattle.params.specs.declared.settings.ChannelMixer.{ChannelMixer}
-use Rattle.params.specs.Ranges.{IsMixerWithin}
+use Rattle.params.specs.Each.{IsMixerWithin}
 use Rattle.px.specs.Number.{clamp, floor_div}
 use Rattle.px.specs.Pixelwise.{made_of}
 use Rattle.px.proofs.NumberLemmas.{by_parts}
@@ -33,17 +33,17 @@ small_of : (z : ℤ) → (neg_ℤ (pos 32768) ≤ℤ z) × (z ≤ℤ pos 32768) 
 small_of z h = omega (arith, ints, h.0, h.1)
 
 entry_small : (m : ChannelMixer) → IsMixerWithin m → (i : ℕ) → unsigned_abs (factor m i) ≤ 32768
-entry_small m within zero = small_of _ within.1.kept.0
-entry_small m within (suc zero) = small_of _ within.1.kept.1.0
-entry_small m within (suc (suc zero)) = small_of _ within.1.kept.1.1.0
-entry_small m within (suc (suc (suc zero))) = small_of _ within.1.kept.1.1.1.0
-entry_small m within (suc (suc (suc (suc zero)))) = small_of _ within.1.kept.1.1.1.1.0
-entry_small m within (suc (suc (suc (suc (suc zero))))) = small_of _ within.1.kept.1.1.1.1.1.0
-entry_small m within (suc (suc (suc (suc (suc (suc zero)))))) = small_of _ within.1.kept.1.1.1.1.1.1.0
-entry_small m within (suc (suc (suc (suc (suc (suc (suc zero))))))) = small_of _ within.1.kept.1.1.1.1.1.1.1.0
-entry_small m within (suc (suc (suc (suc (suc (suc (suc (suc zero)))))))) = small_of _ within.1.kept.1.1.1.1.1.1.1.1.0
-entry_small m within (suc (suc (suc (suc (suc (suc (suc (suc (suc i))))))))) = let e = get_or_past m.rows (9 + i) (pos 0) (omega (arith, within.0)) in rw e (omega arith)
+entry_small m within zero = small_of _ within.kept.0
+entry_small m within (suc zero) = small_of _ within.kept.1.0
+entry_small m within (suc (suc zero)) = small_of _ within.kept.1.1.0
+entry_small m within (suc (suc (suc zero))) = small_of _ within.kept.1.1.1.0
+entry_small m within (suc (suc (suc (suc zero)))) = small_of _ within.kept.1.1.1.1.0
+entry_small m within (suc (suc (suc (suc (suc zero))))) = small_of _ within.kept.1.1.1.1.1.0
+entry_small m within (suc (suc (suc (suc (suc (suc zero)))))) = small_of _ within.kept.1.1.1.1.1.1.0
+entry_small m within (suc (suc (suc (suc (suc (suc (suc zero))))))) = small_of _ within.kept.1.1.1.1.1.1.1.0
+entry_small m within (suc (suc (suc (suc (suc (suc (suc (suc zero)))))))) = small_of _ within.kept.1.1.1.1.1.1.1.1.0
+entry_small m within (suc (suc (suc (suc (suc (suc (suc (suc (suc i))))))))) = let e = get_or_past m.rows (9 + i) (pos 0) (omega (arith, within.sized)) in rw e (omega arith)
 
 -- settings within their ranges have a matrix within its ranges
 pub matrix_of : (m : ChannelMixer) → IsMixerWithin m → IsMatrix m
-matrix_of m within = record { size = within.0; small = entry_small m within }
+matrix_of m within = record { size = within.sized; small = entry_small m within }

@@ -1,11 +1,12 @@
 -- Settings of old versions mean the same as those that they become.
-use Rattle.std.proofs.Common.{◌≡◌, ℕ, zero, suc, ◌+◌, ◌*◌, ◌/◌, ℤ, pos, negsuc, refl, sym, ap, ◌∙◌, arith}
+use Rattle.std.proofs.Common.{◌≡◌, ℕ, zero, suc, ◌+◌, ◌*◌, ◌/◌, ℤ, pos, negsuc, List, refl, sym, ap, ◌∙◌, arith}
 use Rattle.std.specs.Prelude.{neg_ℤ, ◌-ℤ◌, ◌*ℤ◌}
 use Rattle.params.specs.Ranges.{migrated}
 use Rattle.params.specs.declared.old.OldParams.{OldParams}
 use Rattle.params.specs.declared.old.OldParams.TheVariants as old
 use Rattle.px.specs.Number.{floor_div, clamp}
 use Rattle.px.specs.Picture.{Picture}
+use Rattle.modules_colour.specs.Curving.{curved, nodes_of}
 use Rattle.modules_colour.specs.Exposing.{changed, exposed}
 use Rattle.modules_colour.specs.Old.{exposed_1, MeansTheSame}
 
@@ -27,7 +28,13 @@ in_65536ths (negsuc n) gain =
 no_stops : (black : ℤ) (gain v : ℕ) → exposed_1 black gain v ≡ exposed (record { black = black; gain = gain; stops = pos 0 }) v
 no_stops black gain v = ap clamp (in_65536ths (pos v -ℤ black) gain)
 
+-- where each channel has the same curve, a channel has that one
+one_for_all : (nodes : List (ℕ × ℕ)) (c : ℕ) → nodes ≡ nodes_of (record { red = nodes; green = nodes; blue = nodes }) c
+one_for_all nodes zero = refl
+one_for_all nodes (suc zero) = refl
+one_for_all nodes (suc (suc c)) = refl
+
 -- migrated settings mean what the old ones meant
 pub migrated_means : (p : OldParams) → MeansTheSame p (migrated p)
 migrated_means (old.Exposure1 black gain) q level = λ i. changed (λ v. no_stops black gain v i) q
-migrated_means (old.ToneCurve1 nodes) q level = refl
+migrated_means (old.ToneCurve1 nodes) q level = λ i. record { kind = q.kind; w = q.w; h = q.h; at = λ x y c. curved (one_for_all nodes c i) (q.at x y c) }

@@ -47,7 +47,7 @@ fn shared_or_made(
     if are_same(nodes, known_nodes) {
         return Arc::try_clone(known);
     }
-    Arc::new(alloc, ChannelTable::make(alloc, nodes)?)
+    Ok(Arc::new(alloc, ChannelTable::make(alloc, nodes)?)?)
 }
 
 impl CurveTable {

@@ -9,3 +9,4 @@ pub mod Ranges
 pub mod Read
 pub mod Written
 pub mod Curve
+pub mod Each

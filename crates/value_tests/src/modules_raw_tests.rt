@@ -46,7 +46,10 @@ fn levels_are_means_by_colour(rt: HostRuntime) -> Result<(), Fail> {
     assert!(rt; first.sides() == (3, 2));
     assert_eq!(rt;
         first.values(),
-        [0, 5, 11, 2, 7, 13, 4, 8, 13, 20, 15, 11, 22, 17, 13, 24, 18, 13].as_slice()
+        [
+            0, 5, 11, 2, 7, 13, 4, 8, 13, 20, 15, 11, 22, 17, 13, 24, 18, 13
+        ]
+        .as_slice()
     );
     let second = level(&rt, rt.alloc(), &source, 2)?;
     assert!(rt; second.sides() == (2, 1));
