@@ -20,11 +20,12 @@ use Rattle.params.specs.declared.modules.Module.TheVariants as modules
 use Rattle.params.specs.declared.settings.Params.{Params}
 use Rattle.params.specs.Form.{natural, natural_at, natural_or, bool_or, within, only_if}
 use Rattle.params.specs.Names.{name_of_module, module_named}
-use Rattle.params.specs.Ranges.{IsWithin, IsBlendFit, IsBlendWithin, module_of, check_blend_of}
+use Rattle.params.specs.Ranges.{IsWithin, IsBlendFit, IsBlendWithin, module_of, newest_of, check_blend_of}
 use Rattle.params.specs.Read.{params_of, blend_of}
 use Rattle.params.specs.Written.{natural_data, params_data, blend_data}
 use Rattle.params.specs.Stated.{null_or}
-use Rattle.params.proofs.AgainLemmas.{natural_again, params_again, blend_again}
+use Rattle.params.proofs.AgainLemmas.{params_again, blend_again}
+use Rattle.params.proofs.RowAgain.{natural_again}
 use Rattle.params.proofs.Faults.{fit_tells}
 use Rattle.history.specs.declared.items.Item.{Item}
 use Rattle.history.specs.declared.edits.Edit.{Edit}
@@ -35,9 +36,9 @@ use Rattle.edit_steps.specs.declared.step.Step.TheVariants as steps
 use Rattle.edit_steps.specs.Ranges.{IsView, IsBox, IsThumbnailBox, IsSettings, IsEditWithin, IsStepWithin}
 use Rattle.edit_script.specs.Parts.{depth_form, cfa_form, sides_form, view_at_keys, view_form}
 use Rattle.edit_script.specs.Settings.{settings_at_keys, settings_form}
-use Rattle.edit_script.specs.Item.{formed, blend_at, module_at, params_at, blend_in, item_of, item_at_keys, item_form}
+use Rattle.edit_script.specs.Item.{formed, blend_at, module_at, version_at, params_at, blend_in, item_of, item_at_keys, item_form}
 use Rattle.edit_script.specs.Step.{select_form, add_form, move_form, delete_form, export_form, thumbnail_form, set_form, step_form}
-use Rattle.edit_script.specs.Written.{cfa_data, depth_data, box_data, box_or_null, view_data, view_or_null, settings_data, module_word, item_data, set_data, select_data, word_data, placed_data, delete_data, edit_data, view_step_data, export_data, thumbnail_data, step_data}
+use Rattle.edit_script.specs.Written.{cfa_data, depth_data, box_data, box_or_null, view_data, view_or_null, settings_data, module_word, version_data, item_data, set_data, select_data, word_data, placed_data, delete_data, edit_data, view_step_data, export_data, thumbnail_data, step_data}
 use Rattle.edit_script.specs.Typed.{IsItemTyped, IsEditTyped, IsStepTyped}
 use Rattle.edit_script.proofs.TypedLemmas.{blend_within_at}
 
@@ -133,7 +134,7 @@ settings_back s h =
 
 -- ---- items
 
-params_formed : (p : Params) → IsWithin p → formed (params_of (module_of p) (params_data p)) ≡ Some (Ok p)
+params_formed : (p : Params) → IsWithin p → formed (params_of (module_of p) (newest_of (module_of p)) (params_data p)) ≡ Some (Ok p)
 params_formed p h = ap formed (params_again p h)
 
 blend_formed : (o : Option Blend) → IfSome o IsBlendWithin → formed (blend_of (blend_data o)) ≡ Some (Ok o)
@@ -149,30 +150,36 @@ blend_at_back m o e = fit_at m o ((fit_tells m o (check_blend_of m o) refl).0 (r
 item_of_back : (i : Item) → check_blend_of (module_of i.params) i.blend ≡ Ok tt → item_of (module_of i.params) i.instance i.enabled (Ok i.params) (Ok i.blend) ≡ Ok i
 item_of_back i e = rw (blend_at_back (module_of i.params) i.blend e) refl
 
-item_chain : (i : Item) (d : Data) (a : Option Module) (b : Option ℕ) (c : Option Bool) (f : Option (Result (Option Blend) ParamFault)) → IsItemTyped i
-    → a ≡ Some (module_of i.params) → b ≡ Some i.instance → c ≡ Some i.enabled → params_at (module_of i.params) d ≡ Some (Ok i.params) → f ≡ Some (Ok i.blend)
-    → option_and_then (λ m. option_and_then (λ instance. option_and_then (λ enabled. option_and_then (λ params. option_and_then (λ blend. Some (item_of m instance enabled params blend)) f) (params_at m d)) c) b) a ≡ Some (Ok i)
-item_chain i d a b c f h p q r s t = rw (p, q, r, s, t) (ap Some (item_of_back i h.blend))
+item_chain : (i : Item) (d : Data) (a : Option Module) (b : Option ℕ) (c : Option Bool) (v : Option ℕ) (f : Option (Result (Option Blend) ParamFault)) → IsItemTyped i
+    → a ≡ Some (module_of i.params) → b ≡ Some i.instance → c ≡ Some i.enabled → v ≡ Some (newest_of (module_of i.params)) → params_at (module_of i.params) (newest_of (module_of i.params)) d ≡ Some (Ok i.params) → f ≡ Some (Ok i.blend)
+    → option_and_then (λ m. option_and_then (λ instance. option_and_then (λ enabled. option_and_then (λ version. option_and_then (λ params. option_and_then (λ blend. Some (item_of m instance enabled params blend)) f) (params_at m version d)) v) c) b) a ≡ Some (Ok i)
+item_chain i d a b c v f h p q r u s t = rw (p, q, r, u, s, t) (ap Some (item_of_back i h.blend))
+
+-- the version that is written is read again
+version_back : (m : Module) → natural 0 255 (natural_data (newest_of m)) ≡ Some (newest_of m)
+version_back modules.RawPrepare = refl
+version_back _ = refl
 
 -- an object that has the keys of an item says it
 item_from : (d : Data) (i : Item) → IsItemTyped i → get (codes "module") d ≡ Some (module_word (module_of i.params)) → get (codes "instance") d ≡ Some (natural_data i.instance)
-    → get (codes "enabled") d ≡ Some (boolean i.enabled) → get (codes "params") d ≡ Some (params_data i.params) → get (codes "blend") d ≡ Some (blend_data i.blend) → item_at_keys d ≡ Some (Ok i)
+    → get (codes "enabled") d ≡ Some (boolean i.enabled) → get (codes "params") d ≡ Some (params_data i.params) → get (codes "blend") d ≡ Some (blend_data i.blend) → get (codes "version") d ≡ Some (version_data i) → item_at_keys d ≡ Some (Ok i)
 unfolding item_at_keys
-item_from d i h a b c e f =
+item_from d i h a b c e f g =
     let at_module : module_at d ≡ Some (module_of i.params) = rw a (module_back (module_of i.params)) in
     let at_instance : natural_or (codes "instance") 0 0 255 d ≡ Some i.instance = rw b (natural_back 0 255 i.instance (omega arith) h.instance (omega (arith, h.instance))) in
     let at_enabled : bool_or (codes "enabled") true d ≡ Some i.enabled = rw c refl in
-    let at_params : params_at (module_of i.params) d ≡ Some (Ok i.params) = rw e (params_formed i.params h.params) in
+    let at_version : version_at d ≡ Some (newest_of (module_of i.params)) = rw g (version_back (module_of i.params)) in
+    let at_params : params_at (module_of i.params) (newest_of (module_of i.params)) d ≡ Some (Ok i.params) = rw e (params_formed i.params h.params) in
     let at_blend : blend_in d ≡ Some (Ok i.blend) = rw f (blend_formed i.blend (blend_within_at (module_of i.params) i.blend h.blend)) in
-    item_chain i d (module_at d) (natural_or (codes "instance") 0 0 255 d) (bool_or (codes "enabled") true d) (blend_in d) h at_module at_instance at_enabled at_params at_blend
+    item_chain i d (module_at d) (natural_or (codes "instance") 0 0 255 d) (bool_or (codes "enabled") true d) (version_at d) (blend_in d) h at_module at_instance at_enabled at_version at_params at_blend
 
 pub item_back : (i : Item) → IsItemTyped i → item_form (item_data i) ≡ Some (Ok i)
 unfolding item_data
-item_back i h = item_from (item_data i) i h refl refl refl refl refl
+item_back i h = item_from (item_data i) i h refl refl refl refl refl refl
 
 set_back : (i : Item) → IsItemTyped i → step_form (set_data i) ≡ Some (Ok (steps.Edit (edits.Set i)))
 unfolding step_form set_form set_data
-set_back i h = rw (item_from (set_data i) i h refl refl refl refl refl) refl
+set_back i h = rw (item_from (set_data i) i h refl refl refl refl refl refl) refl
 
 -- ---- steps
 

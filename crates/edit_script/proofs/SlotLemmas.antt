@@ -17,19 +17,13 @@ use Rattle.edit_script.proofs.RangeLemmas.{only_some}
 
 -- ---- slots
 
--- the slot is of one of the eight modules
+-- the slot is of one of the ten modules
 abbrev pub IsOfModule : Slot → Type 0
-IsOfModule s = s.module ≤ 7
+IsOfModule s = s.module ≤ 9
 
-number_few : (m : Module) → number_of m ≤ 7
+number_few : (m : Module) → number_of m ≤ 9
 number_few modules.RawPrepare = omega arith
-number_few modules.Temperature = omega arith
-number_few modules.Demosaic = omega arith
-number_few modules.Orientation = omega arith
-number_few modules.Crop = omega arith
-number_few modules.Exposure = omega arith
-number_few modules.ChannelMixer = omega arith
-number_few modules.ToneCurve = omega arith
+number_few _ = omega arith
 
 named_few : (m : Option Module) (instance : Option ℕ) → IfSome (m >>= λ m. instance >>= λ i. Some (slot (number_of m) i)) IsOfModule
 named_few None instance = tt

@@ -17,9 +17,9 @@ use Rattle.params.specs.declared.settings.Params.{Params}
 use Rattle.params.specs.declared.settings.Params.TheVariants as params
 use Rattle.params.specs.Form.{has_only, natural_at, natural_or, bool_or, or_absent, text_at, ◌>>=◌}
 use Rattle.params.specs.Rules.{first_fault}
-use Rattle.params.specs.Ranges.{IsWithin, IsBlendWithin, module_of, check_of, check_blend_of, blends, blend_fault, entries_of, blend_entries, stated_blend}
+use Rattle.params.specs.Ranges.{IsWithin, IsBlendWithin, module_of, check_of, check_blend_of, blends, blend_fault, entries_of, stated_blend}
 use Rattle.params.specs.Read.{params_of, blend_of}
-use Rattle.params.specs.Stated.{null_or}
+use Rattle.params.specs.Stated.{null_or, blend_entries}
 use Rattle.params.proofs.Faults.{none_at_fault}
 use Rattle.params.proofs.WithinLemmas.{params_read_within, blend_read_within}
 use Rattle.history.specs.declared.items.Item.{Item}
@@ -30,22 +30,14 @@ use Rattle.edit_steps.specs.declared.step.Step.TheVariants as steps
 use Rattle.edit_steps.specs.Ranges.{IsBox, IsThumbnailBox, IsStepWithin}
 use Rattle.edit_script.specs.Binds.{result_and_then}
 use Rattle.edit_script.specs.Parts.{depth_form, sides_form, view_keys, view_at_keys}
-use Rattle.edit_script.specs.Item.{formed, module_at, item_keys, blend_at, item_of, params_at, blend_in, item_at_keys}
+use Rattle.edit_script.specs.Item.{formed, module_at, item_keys, blend_at, item_of, version_at, params_at, blend_in, item_at_keys}
 use Rattle.edit_script.specs.Step.{if_step, select_form, compress_form, undo_form, redo_form, settle_form, instance_at, place_at, add_form, move_form, delete_form, view_step_form, second_step_form, export_form, thumbnail_form, plain_form, set_of, set_form, step_named, step_form}
 use Rattle.edit_script.proofs.RangeLemmas.{bound, only_some, mapped, Between, natural_at_between, or_absent_within, view_keys_within, AreSides, sides_within}
 
 -- ---- values
 
 no_fault : (p : Params) → IsWithin p → check_of p ≡ Ok tt
-unfolding first_fault
-no_fault (params.RawPrepare p) h = none_at_fault (entries_of (params.RawPrepare p)) h.1
-no_fault (params.Temperature p) h = none_at_fault (entries_of (params.Temperature p)) h.1
-no_fault params.Demosaic h = refl
-no_fault (params.Orientation p) h = refl
-no_fault (params.Crop p) h = none_at_fault (entries_of (params.Crop p)) h
-no_fault (params.Exposure p) h = none_at_fault (entries_of (params.Exposure p)) h
-no_fault (params.ChannelMixer p) h = none_at_fault (entries_of (params.ChannelMixer p)) h.1
-no_fault (params.ToneCurve p) h = none_at_fault (entries_of (params.ToneCurve p)) h
+no_fault p h = none_at_fault (entries_of p) (record { kept = h.kept })
 
 -- values of a module that are within their ranges
 abbrev IsOf : Module → Params → Type 0
@@ -62,14 +54,14 @@ formed_within P (Err ends.Form) h = tt
 formed_within P (Err (ends.Param f)) h = tt
 formed_within P (Err ends.Memory) h = tt
 
-params_within : (m : Module) (d : Data) → IfSome (params_at m d) (λ r. IfOk r (IsOf m))
-params_within m d = bound (λ r. IfOk r (IsOf m)) (get (codes "params") d) (λ v. formed (params_of m v)) (λ v e. formed_within (IsOf m) (params_of m v) (params_read_within m v))
+params_within : (m : Module) (version : ℕ) (d : Data) → IfSome (params_at m version d) (λ r. IfOk r (IsOf m))
+params_within m version d = bound (λ r. IfOk r (IsOf m)) (get (codes "params") d) (λ v. formed (params_of m version v)) (λ v e. formed_within (IsOf m) (params_of m version v) (params_read_within m version v))
 
 blend_within : (d : Data) → IfSome (blend_in d) (λ r. IfOk r IsBlend)
 blend_within d = or_absent_within (λ r. IfOk r IsBlend) (Ok None) (λ v. formed (blend_of v)) (get (codes "blend") d) tt (λ v. formed_within IsBlend (blend_of v) (blend_read_within v))
 
 fit_case : (b : Bool) (m : Module) (x : Blend) → blends m ≡ b → IsBlendWithin x → IfOk (if b then Ok (Some x) else Err blend_fault) (λ o. check_blend_of m o ≡ Ok tt)
-fit_case true m x e h = ap (λ b. if b then first_fault (blend_entries (stated_blend x)) else Err blend_fault) e ∙ none_at_fault (blend_entries (stated_blend x)) h
+fit_case true m x e h = ap (λ b. if b then first_fault (blend_entries (stated_blend x)) else Err blend_fault) e ∙ none_at_fault (blend_entries (stated_blend x)) (record { kept = h.kept })
 fit_case false m x e h = tt
 
 err_case : (b : Bool) (P : Option Blend → Type 0) (f : ParamFault) → IfOk (if b then Err f else Err blend_fault) P
@@ -113,16 +105,17 @@ values_case : (m : Module) (instance : ℕ) (enabled : Bool) (e : Option (Result
 values_case m instance enabled None f h k = tt
 values_case m instance enabled (Some values) f h k = blend_case m instance enabled values f h k
 
-keys_case : (d : Data) (a : Option Module) (b : Option ℕ) (c : Option Bool)
-    → IfSome (a >>= λ m. b >>= λ instance. c >>= λ enabled. params_at m d >>= λ values. blend_in d >>= λ blend. Some (item_of m instance enabled values blend)) IsRead
-keys_case d None b c = tt
-keys_case d (Some m) None c = tt
-keys_case d (Some m) (Some instance) None = tt
-keys_case d (Some m) (Some instance) (Some enabled) = values_case m instance enabled (params_at m d) (blend_in d) (params_within m d) (blend_within d)
+keys_case : (d : Data) (a : Option Module) (b : Option ℕ) (c : Option Bool) (v : Option ℕ)
+    → IfSome (a >>= λ m. b >>= λ instance. c >>= λ enabled. v >>= λ version. params_at m version d >>= λ values. blend_in d >>= λ blend. Some (item_of m instance enabled values blend)) IsRead
+keys_case d None b c v = tt
+keys_case d (Some m) None c v = tt
+keys_case d (Some m) (Some instance) None v = tt
+keys_case d (Some m) (Some instance) (Some enabled) None = tt
+keys_case d (Some m) (Some instance) (Some enabled) (Some version) = values_case m instance enabled (params_at m version d) (blend_in d) (params_within m version d) (blend_within d)
 
 pub item_keys_within : (d : Data) → IfSome (item_at_keys d) IsRead
 unfolding item_at_keys
-item_keys_within d = keys_case d (module_at d) (natural_or (codes "instance") 0 0 255 d) (bool_or (codes "enabled") true d)
+item_keys_within d = keys_case d (module_at d) (natural_or (codes "instance") 0 0 255 d) (bool_or (codes "enabled") true d) (version_at d)
 
 -- ---- steps
 

@@ -42,14 +42,18 @@ item_of m instance enabled params blend =
 abbrev pub module_at : Data → Option Module
 module_at d = option_and_then module_named (text_at (codes "module") d)
 
-abbrev pub params_at : Module → Data → Option (Result Params ParamFault)
-params_at m d = option_and_then (λ v. formed (params_of m v)) (get (codes "params") d)
+-- the version of the module's settings that the keys of an object say: 1 where they say none
+abbrev pub version_at : Data → Option ℕ
+version_at d = natural_or (codes "version") 1 0 255 d
+
+abbrev pub params_at : Module → ℕ → Data → Option (Result Params ParamFault)
+params_at m version d = option_and_then (λ v. formed (params_of m version v)) (get (codes "params") d)
 
 abbrev pub blend_in : Data → Option (Result (Option Blend) ParamFault)
 blend_in d = or_absent (Ok None) (λ v. formed (blend_of v)) (get (codes "blend") d)
 
 abbrev pub item_keys : List (List ℕ)
-item_keys = codes "module" ∷ codes "instance" ∷ codes "enabled" ∷ codes "params" ∷ codes "blend" ∷ []
+item_keys = codes "module" ∷ codes "instance" ∷ codes "enabled" ∷ codes "version" ∷ codes "params" ∷ codes "blend" ∷ []
 
 -- the item that the keys of an object say, if they have the form
 unfoldable pub item_at_keys : Data → Option (Result Item ParamFault)
@@ -57,7 +61,8 @@ item_at_keys d = do
   m ← module_at d
   instance ← natural_or (codes "instance") 0 0 255 d
   enabled ← bool_or (codes "enabled") true d
-  params ← params_at m d
+  version ← version_at d
+  params ← params_at m version d
   blend ← blend_in d
   Some (item_of m instance enabled params blend)
 

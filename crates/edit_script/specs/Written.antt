@@ -9,8 +9,9 @@ use Rattle.px.specs.declared.view.View.{View}
 use Rattle.px.specs.declared.view.BoxSize.{BoxSize}
 use Rattle.params.specs.declared.modules.Module.{Module}
 use Rattle.params.specs.declared.modules.Module.TheVariants as modules
-use Rattle.params.specs.Names.{name_of_module, all_modules}
-use Rattle.params.specs.Ranges.{module_of}
+use Rattle.params.specs.Names.{name_of_module}
+use Rattle.params.specs.Table.{all_modules}
+use Rattle.params.specs.Ranges.{module_of, newest_of}
 use Rattle.params.specs.Written.{natural_data, pair_data, params_data, blend_data}
 use Rattle.module_order.specs.declared.slots.Slot.{Slot}
 use Rattle.history.specs.declared.items.Item.{Item}
@@ -66,10 +67,14 @@ settings_data s = object (
 abbrev pub module_word : Module → Data
 module_word m = string (name_of_module m)
 
+-- the version that is written: the newest of the module
+abbrev pub version_data : Item → Data
+version_data i = natural_data (newest_of (module_of i.params))
+
 unfoldable pub item_data : Item → Data
 item_data i = object (
     member (codes "blend") (blend_data i.blend) (member (codes "enabled") (boolean i.enabled) (member (codes "instance") (natural_data i.instance)
-    (member (codes "module") (module_word (module_of i.params)) (member (codes "params") (params_data i.params) no_members)))))
+    (member (codes "module") (module_word (module_of i.params)) (member (codes "params") (params_data i.params) (member (codes "version") (version_data i) no_members))))))
 
 -- the module of a number
 abbrev pub module_numbered : ℕ → Module
@@ -89,7 +94,7 @@ unfoldable pub set_data : Item → Data
 set_data i = object (
     member (codes "blend") (blend_data i.blend) (member (codes "do") (string (codes "set")) (member (codes "enabled") (boolean i.enabled)
     (member (codes "instance") (natural_data i.instance) (member (codes "module") (module_word (module_of i.params))
-    (member (codes "params") (params_data i.params) no_members))))))
+    (member (codes "params") (params_data i.params) (member (codes "version") (version_data i) no_members)))))))
 
 unfoldable pub select_data : ℕ → Data
 select_data end = object (member (codes "do") (string (codes "select")) (member (codes "end") (natural_data end) no_members))

@@ -11,20 +11,9 @@ ghost use Rattle.edit_script.specs.Typed.{IsItemTyped, IsOrderTyped, IsHistoryTy
 
 use history::{History, Item};
 use module_order::{Order, Slot};
-use params::{Module, Params, blend_to_json, check, to_json};
+use params::{MODULES, Module, Params, blend_to_json, check, to_json};
 use serde_json::{Value, json};
 use std::alloc::{AllocError, Global};
-
-const MODULES: [Module; 8] = [
-    Module::RawPrepare,
-    Module::Temperature,
-    Module::Demosaic,
-    Module::Orientation,
-    Module::Crop,
-    Module::Exposure,
-    Module::ChannelMixer,
-    Module::ToneCurve,
-];
 
 // Settings that have no fault. The check says that they are within their ranges, as the writer asks.
 pub(crate) fn params_data(alloc: Global, params: &Params) -> Result<Value, AllocError>
@@ -49,7 +38,8 @@ fn item_data(alloc: Global, item: &Item) -> Result<Value, AllocError>
         "enabled": item.enabled,
         "instance": item.instance,
         "module": item.module().name(),
-        "params": params
+        "params": params,
+        "version": item.module().newest()
     })
 }
 
@@ -67,14 +57,14 @@ fn items_data(alloc: Global, items: &[Item]) -> Result<Vec<Value>, AllocError>
 
 // The module of a number.
 fn module_numbered(number: u8) -> Module
-    requires { number ≤ 7 }
+    requires { number ≤ 9 }
     ensures { result ≡ module_numbered number }
 {
     MODULES[usize::from(number)]
 }
 
 fn slot_data(alloc: Global, slot: Slot) -> Result<Value, AllocError>
-    requires { slot.module ≤ 7 }
+    requires { slot.module ≤ 9 }
     ensures value { IfOk result (λ v. view v ≡ slot_data slot) }
     ensures instance { slot.instance ≤ 255 }
 {
@@ -82,7 +72,7 @@ fn slot_data(alloc: Global, slot: Slot) -> Result<Value, AllocError>
 }
 
 fn order_data(alloc: Global, order: &Order) -> Result<Vec<Value>, AllocError>
-    requires { All (λ s. s.module ≤ 7) order.now }
+    requires { All (λ s. s.module ≤ 9) order.now }
     ensures value { IfOk result (λ v. items_view v.items ≡ items_of (map slot_data order.now)) }
     ensures typed { OnOk result (IsOrderTyped order.now) }
 {

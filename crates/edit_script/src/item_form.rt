@@ -71,11 +71,12 @@ pub(crate) fn module_at(value: &Value) -> Option<Module>
 fn params_formed(
     alloc: Global,
     module: Module,
+    version: u32,
     value: &Value,
 ) -> Result<Result<Params, ParamFault>, FormEnd>
-    ensures { IsFormed (λ p. p) result (formed (params_of «module» (view value.now))) }
+    ensures { IsFormed (λ p. p) result (formed (params_of «module» version (view value.now))) }
 {
-    match of_json(alloc, module, value) {
+    match of_json(alloc, module, version, value) {
         Ok(params) => Ok(Ok(params)),
         Err(JsonEnd::Form) => Err(FormEnd::Form),
         Err(JsonEnd::Param(fault)) => Ok(Err(fault)),
@@ -86,12 +87,13 @@ fn params_formed(
 fn params_at(
     alloc: Global,
     module: Module,
+    version: u32,
     value: &Value,
 ) -> Result<Result<Params, ParamFault>, FormEnd>
-    ensures { IsFormed (λ p. p) result (params_at «module» (view value.now)) }
+    ensures { IsFormed (λ p. p) result (params_at «module» version (view value.now)) }
 {
     match value.get("params") {
-        Some(params) => params_formed(alloc, module, params),
+        Some(params) => params_formed(alloc, module, version, params),
         None => Err(FormEnd::Form),
     }
 }
@@ -128,7 +130,8 @@ pub(crate) fn item_at_keys(
     let module = module_at(value).ok_or(FormEnd::Form)?;
     let instance = natural_or(value, "instance", 0, 0, 255).ok_or(FormEnd::Form)?;
     let enabled = bool_or(value, "enabled", true).ok_or(FormEnd::Form)?;
-    let params = params_at(alloc, module, value)?;
+    let version = natural_or(value, "version", 1, 0, 255).ok_or(FormEnd::Form)?;
+    let params = params_at(alloc, module, version, value)?;
     let blend = blend_in(value).ok_or(FormEnd::Form)?;
     Ok(item_of(module, instance as u8, enabled, params, blend))
 }
@@ -137,7 +140,10 @@ pub(crate) fn item_at_keys(
 pub(crate) fn item_form(alloc: Global, value: &Value) -> Result<Result<Item, ParamFault>, FormEnd>
     ensures { IsFormed (λ i. i) result (item_form (view value.now)) }
 {
-    if !has_only(value, &["module", "instance", "enabled", "params", "blend"]) {
+    let keys = [
+        "module", "instance", "enabled", "version", "params", "blend",
+    ];
+    if !has_only(value, &keys) {
         return Err(FormEnd::Form);
     }
     item_at_keys(alloc, value)

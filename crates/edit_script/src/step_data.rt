@@ -30,7 +30,8 @@ fn set_data(alloc: Global, item: &Item) -> Result<Value, AllocError>
         "enabled": item.enabled,
         "instance": item.instance,
         "module": item.module().name(),
-        "params": params
+        "params": params,
+        "version": item.module().newest()
     })
 }
 

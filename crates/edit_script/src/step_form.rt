@@ -225,7 +225,7 @@ fn set_of(item: Result<Item, ParamFault>) -> Result<Step, ParamFault>
 fn set_form(alloc: Global, value: &Value) -> Result<Result<Step, ParamFault>, FormEnd>
     ensures { IsFormed (λ s. s) result (set_form (view value.now)) }
 {
-    let keys = ["do", "module", "instance", "enabled", "params", "blend"];
+    let keys = ["do", "module", "instance", "enabled", "version", "params", "blend"];
     if !has_only(value, &keys) {
         return Err(FormEnd::Form);
     }

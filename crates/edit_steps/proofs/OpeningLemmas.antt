@@ -7,8 +7,8 @@ use Rattle.module_order.specs.Slot.{start_slots}
 use Rattle.history.specs.Stack.{stack}
 use Rattle.edit_steps.specs.Ranges.{IsOpening}
 
-start_modules : All (λ (s : Slot). s.module ≤ 7) start_slots
-start_modules = All-from_recursion (λ (s : Slot). s.module ≤ 7) start_slots (omega arith, (omega arith, (omega arith, (omega arith, (omega arith, (omega arith, (omega arith, (omega arith, tt))))))))
+start_modules : All (λ (s : Slot). s.module ≤ 9) start_slots
+start_modules = All-from_recursion (λ (s : Slot). s.module ≤ 9) start_slots (omega arith, (omega arith, (omega arith, (omega arith, (omega arith, (omega arith, (omega arith, (omega arith, tt))))))))
 
 pub IsOpening-start : IsOpening (stack [] 0 start_slots)
 IsOpening-start = record { history = record { items = All-nil _; end = omega arith }; few = omega arith; modules = start_modules }

@@ -58,7 +58,7 @@ pub record IsSettings (s : Settings) : Type 0 where
 pub record IsOpening (h : Stack) : Type 0 where
   pub history : IsHistory h
   pub few : length h.items ≤ 256
-  pub modules : All (λ s. s.module ≤ 7) h.order
+  pub modules : All (λ s. s.module ≤ 9) h.order
 
 -- the numbers of an edit are ones that a script can hold: an item's values are within their ranges, and there is no blend on
 -- a module that doesn't blend

@@ -1,5 +1,5 @@
 -- What is written for settings, masks and blends is read again as the same.
-use Rattle.std.proofs.Common.{◌≡◌, ℕ, ◌≤◌, ℤ, pos, negsuc, ◌≤ℤ◌, List, [], ◌∷◌, ◌++◌, length, Bool, true, false, not, ◌&&◌, IsTrue, Option, Some, None, IfSome, Ok, refl, sym, ap, ◌∙◌, arith, true≢false}
+use Rattle.std.proofs.Common.{◌≡◌, ℕ, ℤ, pos, negsuc, ◌≤ℤ◌, List, [], ◌∷◌, ◌++◌, length, Bool, true, false, not, ◌&&◌, IsTrue, Option, Some, None, IfSome, Ok, refl, sym, ap, ◌∙◌, arith, true≢false}
 use Rattle.std.specs.Bool.{if◌then◌else◌}
 use Rattle.std.specs.Prelude.{codes}
 use Rattle.std.specs.Cmp.{unsigned_Decides}
@@ -9,14 +9,14 @@ use Rattle.std.specs.Int.RustNames.{int_le}
 use Rattle.std.proofs.lemmas.Int.{ints}
 use Rattle.serde_json.specs.Data.{string, no_members}
 use Rattle.serde_json.specs.Find.{get_member}
-use Rattle.params.specs.Form.{integer, is_one_of, only}
+use Rattle.params.specs.Form.{is_one_of, only}
 use Rattle.params.specs.Names.{mode_named, name_of_mode}
 use Rattle.params.specs.Read.{or_form, unless_fault, newest_read, old_read, params_of, blend_kept, blend_of}
 use Rattle.params.specs.Rules.{first_fault, IsKept}
 use Rattle.params.specs.Stated.{cell_entries, cells_entries, row_entries, mask_entries, blend_entries, keys_of, shape_key, blend_keys, mask_named, mask_form, blend_form, null_or, is_row, Fits, HasLayout}
 use Rattle.params.specs.Table.{Part, one, three, nine, pairs, flag, row_of, old_row_of, blend_row, mask_row_of, name_of_mask}
 use Rattle.params.specs.Ranges.{IsWithin, IsBlendWithin, IsIn, IsSized, module_of, newest_of, old_version, version_of, kind_of, natural, entries_of, parts_of, old_parts_of, shape_parts, stated_mask, stated_blend, params_from, shape_from, mask_from, blend_from, naturals, wide_three, matrix, wide_nine}
-use Rattle.params.specs.Written.{natural_data, params_data, shape_member, shape_data, mask_data, blend_members, blend_value_data, blend_data, cells_members}
+use Rattle.params.specs.Written.{params_data, shape_member, shape_data, mask_data, blend_members, blend_value_data, blend_data, cells_members}
 use Rattle.params.specs.declared.blending.Blend.{Blend}
 use Rattle.params.specs.declared.blending.Mode.{Mode}
 use Rattle.params.specs.declared.blending.Mode.TheVariants as modes
@@ -35,7 +35,7 @@ use Rattle.params.specs.declared.row.Layout.{Layout}
 use Rattle.params.specs.declared.row.Layout.TheVariants as layouts
 use Rattle.params.specs.declared.settings.Params.{Params}
 use Rattle.params.specs.declared.settings.Params.TheVariants as params
-use Rattle.params.proofs.RowAgain.{both, integer_again, row_again, untouched, IsLowPart, IsLow}
+use Rattle.params.proofs.RowAgain.{both, row_again, untouched, IsLowPart, IsLow}
 use Rattle.params.proofs.Faults.{none_at_fault, int_le-Decides}
 use Rattle.params.proofs.KeptLemmas.{all_append, nodes_kept, nodes_back}
 
@@ -161,10 +161,6 @@ settings_again (params.Temperature p) h = λ i. params.Temperature (record { mul
 settings_again (params.ChannelMixer p) h = λ i. params.ChannelMixer (record { rows = nine_again p.rows h i })
 settings_again (params.ToneCurve p) h = λ i. params.ToneCurve (record { red = nodes_back p.red i; green = nodes_back p.green i; blue = nodes_back p.blue i })
 settings_again _ h = refl
-
--- a number that is written is read again
-pub natural_again : (n : ℕ) → n ≤ 1048575 → integer (natural_data n) ≡ Some (pos n)
-natural_again n h = integer_again (pos n) (omega (arith, ints))
 
 -- ---- settings
 

@@ -1,5 +1,5 @@
 -- What is written for a row's parts is read again as the same.
-use Rattle.std.proofs.Common.{◌≡◌, ℕ, ◌^◌, ℤ, pos, negsuc, ◌≤ℤ◌, List, [], ◌∷◌, ◌++◌, Some, Bool, true, false, not, ◌&&◌, ◌||◌, bytes_eq, IsTrue, refl, sym, ◌∙◌, arith, lt-ltb, true≢false, Ordering, Less, Equal, Greater}
+use Rattle.std.proofs.Common.{◌≡◌, ℕ, ◌^◌, ◌<◌, ℤ, pos, negsuc, ◌≤ℤ◌, List, [], ◌∷◌, ◌++◌, Some, Bool, true, false, not, ◌&&◌, ◌||◌, bytes_eq, IsTrue, refl, sym, ◌∙◌, arith, lt-ltb, true≢false, Ordering, Less, Equal, Greater}
 use Rattle.std.specs.Ordering.{match_ordering, nat_cmp}
 use Rattle.std.specs.Cmp.Lexicographic.{slice_cmp}
 use Rattle.std.specs.List.{AllByRecursion}
@@ -13,7 +13,7 @@ use Rattle.params.specs.Form.{integer, only, is_one_of, three_integers}
 use Rattle.params.specs.Stated.{part_form, parts_form, row_form, key_of, keys_of, pairs_form, Fits, HasLayout, is_row}
 use Rattle.params.specs.Table.{Part, one, three, nine, pairs, flag, Triple}
 use Rattle.params.specs.Ranges.{AreInputs}
-use Rattle.params.specs.Written.{integer_data, three_data, pairs_data, part_data, cells_members, row_data}
+use Rattle.params.specs.Written.{natural_data, integer_data, three_data, pairs_data, part_data, cells_members, row_data}
 use Rattle.params.specs.declared.row.Cell.{Cell}
 use Rattle.params.specs.declared.row.Layout.{Layout}
 use Rattle.params.specs.declared.row.Layout.TheVariants as layouts
@@ -77,6 +77,10 @@ all_among [] = tt
 all_among (c ∷ cs) = (rw (itself (key_of c)) refl, more_among (key_of c) (keys_of cs) cs (all_among cs))
 
 -- ---- numbers
+
+-- a natural number that is written is read again
+pub natural_again : (n : ℕ) → n < 2 ^ 63 → integer (natural_data n) ≡ Some (pos n)
+natural_again n h = rw (lt-ltb n (2 ^ 63) h) refl
 
 pub integer_again : (z : ℤ) → z ≤ℤ pos 1048575 → integer (integer_data z) ≡ Some z
 integer_again (pos n) h = rw (lt-ltb n (2 ^ 63) (omega (arith, ints))) refl

@@ -1,17 +1,19 @@
 -- The first fault of a row, cell by cell.
-use Rattle.std.proofs.Common.{◌≡◌, ℕ, zero, suc, ◌+◌, ◌<◌, ◌≤◌, List, [], ◌∷◌, ◌++◌, length, get_or, drop, Ok, Err, false, refl, ap, ◌∙◌, arith}
+use Rattle.std.proofs.Common.{◌≡◌, ℕ, zero, suc, ◌+◌, ◌<◌, ◌≤◌, List, [], ◌∷◌, ◌++◌, length, get_or, drop, Ok, Err, Bool, true, false, ◌&&◌, IsTrue, nat_le, refl, ap, ◌∙◌, arith}
 use Rattle.std.proofs.lemmas.List.{drop_more, at_drop_all}
 use Rattle.serde_json.specs.Data.{Members, put}
 use Rattle.params.specs.Rules.{first_fault, or_else}
 use Rattle.params.specs.Seen.{seen, all_seen}
-use Rattle.params.specs.Stated.{key_of, part_at, cell_entries, cells_entries}
+use Rattle.params.specs.Stated.{is_plain, is_plain_layout, all_plain, key_of, part_at, cell_entries, cells_entries}
 use Rattle.params.specs.Table.{Part, flag}
 use Rattle.params.specs.Written.{part_data, cells_members}
 use Rattle.params.specs.declared.fault.ParamFault.{ParamFault}
 use Rattle.params.specs.declared.part.Numbers.{Numbers}
 use Rattle.params.specs.declared.row.Cell.{Cell}
 use Rattle.params.specs.declared.rules.Entry.{Entry}
+use Rattle.std.proofs.lemmas.Bool.Decides.{nat_tests}
 use Rattle.params.proofs.Faults.{first_fault-append}
+use Rattle.params.proofs.RowAgain.{both}
 
 pub part_there : (ns : List Numbers) (i : ℕ) (d : Numbers) → i < length ns → part_at (all_seen ns) i ≡ seen (get_or ns i d)
 part_there [] i d h = absurd (omega arith)
@@ -76,3 +78,19 @@ no_part_put row parts i ms h = at_drop_all (λ l. cells_members row (all_seen l)
 
 pub no_cell_put : (row : List Cell) (parts : List Part) (i : ℕ) (ms : Members) → length row ≤ i → cells_members (drop i row) parts ms ≡ ms
 no_cell_put row parts i ms h = at_drop_all (λ l. cells_members l parts ms) row i h
+
+-- ---- plain rows
+
+pub plain_cells : (row : List Cell) → is_plain row ≡ true → (length row ≤ 7) × (all_plain row ≡ true)
+plain_cells row h =
+    let b = both (nat_le (length row) 7) (all_plain row) h in
+    (grind (arith, nat_tests, b.0), b.1)
+
+each_plain : (row : List Cell) (i : ℕ) (d : Cell) → all_plain row ≡ true → i < length row → IsTrue (is_plain_layout (get_or row i d).layout)
+each_plain [] i d h less = absurd (omega arith)
+each_plain (c ∷ cs) zero d h less = (both (is_plain_layout c.layout) (all_plain cs) h).0
+each_plain (c ∷ cs) (suc i) d h less = each_plain cs i d (both (is_plain_layout c.layout) (all_plain cs) h).1 (omega arith)
+
+-- each cell of a plain row is plain
+pub plain_at : (row : List Cell) (i : ℕ) (d : Cell) → IsTrue (is_plain row) → i < length row → IsTrue (is_plain_layout (get_or row i d).layout)
+plain_at row i d h less = each_plain row i d (plain_cells row h).1 less

@@ -20,6 +20,7 @@ use Rattle.params.specs.declared.fault.Field.{Field}
 use Rattle.params.specs.declared.fault.Field.TheVariants.{Nodes, Red, Green, Blue}
 use Rattle.params.specs.declared.fault.ParamFault.{ParamFault}
 use Rattle.params.specs.declared.fault.JsonEnd.{JsonEnd}
+use Rattle.params.specs.declared.fault.JsonEnd.TheVariants.{Param}
 use Rattle.params.specs.declared.masks.MaskKind.{MaskKind}
 use Rattle.params.specs.declared.masks.MaskKind.TheVariants as masks
 use Rattle.params.specs.declared.modules.Module.{Module}
@@ -249,6 +250,15 @@ params_module_on_ok (Err e) m v d h = tt
 -- what is stated by a row, with no fault, is kept
 pub row_kept : (row : List Cell) (d : Data) (ps qs : List Part) → form_read (row_form [] row d) ≡ Ok ps → qs ≡ ps → first_fault (row_entries row qs) ≡ Ok tt → IsRowKept row qs
 row_kept row d ps qs e same ok = record { fits = rw same (row_fits [] row d ps (some_of (row_form [] row d) ps e)); kept = (all_kept (row_entries row qs) ok).kept }
+
+fault_of_form : {B : Type 0} (row : List Cell) (make : List Part → B) (o : Option (List Part)) (ps : List Part) (f : ParamFault) → o ≡ Some ps → first_fault (row_entries row ps) ≡ Err f
+    → or_form o (λ qs. unless_fault (first_fault (row_entries row qs)) (make qs)) ≡ Err (Param f)
+fault_of_form row make o ps f e g = rw (e, g) refl
+
+-- what is stated by a row, with a fault, is that fault
+pub row_faulty : {B : Type 0} (row : List Cell) (make : List Part → B) (d : Data) (ps : List Part) (f : ParamFault) → form_read (row_form [] row d) ≡ Ok ps → first_fault (row_entries row ps) ≡ Err f
+    → row_read row make d ≡ Err (Param f)
+row_faulty row make d ps f e g = fault_of_form row make (row_form [] row d) ps f (some_of (row_form [] row d) ps e) g
 
 -- ---- masks and blends
 

@@ -30,7 +30,7 @@ mod writing;
 pub use blending::{Blend, Mode, Shape, mode_named};
 pub use checks::{check, check_blend};
 pub use fault::{Field, JsonEnd, ParamFault};
-pub use modules::{Module, module_named};
+pub use modules::{MODULES, Module, module_named};
 pub use nodes::Nodes20;
 pub use old::{OldParams, check_old, migrate};
 pub use reading::{blend_of_json, of_json};

@@ -27,7 +27,7 @@ pub enum Module {
 }
 
 /// The modules, by their numbers.
-const MODULES: [Module; 10] = [
+pub const MODULES: [Module; 10] = [
     Module::RawPrepare,
     Module::Temperature,
     Module::Demosaic,

@@ -8,6 +8,7 @@ pub(crate) struct Parts<'a> {
     pub parts: [Numbers<'a>; 7],
     pub count: usize,
     ghost few: { count ≤ 7 },
+    ghost seven: { length parts ≡ 7 },
 }
 
 impl<'a> Parts<'a> {

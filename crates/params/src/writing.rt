@@ -29,6 +29,7 @@ fn params_data(alloc: Global, params: &Params) -> Result<Value, AllocError>
 
 /// The JSON form of settings that are within their ranges, in the newest version of their module. Read
 /// for the same module and version, it gives the settings again.
+#[tactic(auto, using(crate::proofs::AgainLemmas::params_again, crate::proofs::TextLemmas::params_short, crate::proofs::TextLemmas::params_exact, crate::proofs::TextLemmas::params_depth))]
 pub fn to_json(alloc: Global, params: &Params) -> Result<Value, AllocError>
     requires within { IsWithin params.now }
     ensures value { IfOk result (λ v. view v ≡ params_data params.now) }

@@ -21,6 +21,8 @@ mod modules_raw_tests;
 #[cfg(test)]
 mod outside_tests;
 #[cfg(test)]
+mod params_tests;
+#[cfg(test)]
 mod pnm_tests;
 #[cfg(test)]
 mod px_tests;
