@@ -1,6 +1,7 @@
 ghost use Rattle.std.specs.Prelude.{◌≡◌, IfOk};
 ghost use Rattle.params.specs.declared.settings.Params.TheVariants.{Crop as crop_params, Orientation as orientation_params};
-ghost use Rattle.params.specs.Ranges.{IsCropWithin, IsWithin};
+ghost use Rattle.params.specs.Each.{IsCropWithin};
+ghost use Rattle.params.specs.Ranges.{IsWithin};
 ghost use Rattle.px.specs.declared.kind.PlaneKind.TheVariants.{Rgb};
 ghost use Rattle.px.specs.Cut.{IsCutOf};
 ghost use Rattle.px.specs.Picture.{Picture};
