@@ -35,7 +35,7 @@ abbrev pub refusal_text : Status → List ℕ
 refusal_text status.Usage = codes "usage: devcore develop SCRIPT SOURCE OUT, stepped SCRIPT SOURCE EVENTS, session SCRIPT SOURCE, generate N\n"
 refusal_text (status.ShelfFault name) = codes "shelf fault: " ++ (name ++ codes "\n")
 refusal_text (status.ScriptRefused step reason) = codes "script refused at step " ++ (decimal step ++ (codes ": " ++ (script.reason_text reason ++ codes "\n")))
-refusal_text (status.EventsRefused place reason) = codes "events refused at event " ++ (decimal place ++ (codes ": " ++ (events.reason_text reason ++ codes "\n")))
+refusal_text (status.EventsRefused place reason) = codes "events refused at event " ++ (decimal place ++ (codes ": " ++ (events.event_reason_text reason ++ codes "\n")))
 refusal_text status.OutOfMemory = codes "out of memory\n"
 refusal_text (status.NotYet input.Script) = codes "not yet: script\n"
 refusal_text (status.NotYet input.Source) = codes "not yet: source\n"
