@@ -1,6 +1,9 @@
 -- Lemmas on the regions that modules need.
 use Rattle.std.proofs.Common.{◌≡◌, ℕ, ◌+◌, ◌-◌, ◌<◌, ◌≤◌, min, max, Bool, true, false, refl, sym, ap, ◌∙◌, subst, arith}
 use Rattle.std.specs.Bool.{if◌then◌else◌}
+use Rattle.std.proofs.lemmas.Int.{ints}
+use Rattle.params.specs.declared.settings.BoxBlur.{BoxBlur}
+use Rattle.params.specs.declared.settings.Sharpen.{Sharpen}
 use Rattle.params.specs.declared.settings.Params.{Params}
 use Rattle.params.specs.declared.settings.Params.TheVariants as params
 use Rattle.params.specs.Ranges.{IsWithin}
@@ -13,9 +16,11 @@ use Rattle.geometry.specs.Needed.{first_of, swapped, flipped, between, needed, r
 use Rattle.geometry.proofs.TraceLemmas.{traces-within, traces-column, traces-row}
 use Rattle.geometry.proofs.PlaceLemmas.{KeepsPart, IsPart, is_part, keeps_part, pixel_before-inside}
 
-pub reach-zero : (p : Params) → (p ≡ params.Demosaic → ⊥) → reach p ≡ 0
-reach-zero params.Demosaic other = absurd (other refl)
-reach-zero _ other = refl
+pub reach-zero : (p : Params) → (p ≡ params.Demosaic → ⊥) → ((b : BoxBlur) → p ≡ params.BoxBlur b → ⊥) → ((s : Sharpen) → p ≡ params.Sharpen s → ⊥) → reach p ≡ 0
+reach-zero params.Demosaic plain unblurred unsharpened = absurd (plain refl)
+reach-zero (params.BoxBlur b) plain unblurred unsharpened = absurd (unblurred b refl)
+reach-zero (params.Sharpen s) plain unblurred unsharpened = absurd (unsharpened s refl)
+reach-zero _ plain unblurred unsharpened = refl
 
 -- ---- along one axis
 
@@ -90,6 +95,8 @@ unmoved out wide high = same_area _ _ (omega arith) (omega arith) (omega arith) 
 
 pub traced_area : (p : Params) (sides : ℕ × ℕ) (out : Area) → IsWithin p → Fits 0 0 sides.0 sides.1 → 0 < out.w → 0 < out.h → IsIn out (sides_after p sides).0 (sides_after p sides).1 → reach p ≡ 0 → IsTracedArea p sides out
 traced_area params.Demosaic sides out within fits wide high inside none = absurd (omega arith)
+traced_area (params.BoxBlur b) sides out within fits wide high inside none = absurd (omega (arith, ints, none, within.kept.0.0))
+traced_area (params.Sharpen s) sides out within fits wide high inside none = absurd (omega (arith, ints, none, within.kept.0.0))
 traced_area (params.Orientation o) sides out within fits wide high inside none =
     let t = turned o.swap o.flip_x o.flip_y sides.0 sides.1 out wide high inside.across inside.down in
     record { region = t.region; has = t.has; inside = t.inside }

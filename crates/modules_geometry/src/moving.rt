@@ -1,6 +1,6 @@
 ghost use Rattle.std.specs.Prelude.{◌≡◌, IfOk};
 ghost use Rattle.params.specs.declared.settings.Params.TheVariants.{Crop as crop_params, Orientation as orientation_params};
-ghost use Rattle.params.specs.Ranges.{IsCropWithin, IsWithin};
+ghost use Rattle.params.specs.Ranges.{IsWithin};
 ghost use Rattle.px.specs.declared.kind.PlaneKind.TheVariants.{Rgb};
 ghost use Rattle.px.specs.Cut.{IsCutOf};
 ghost use Rattle.px.specs.Picture.{Picture};
@@ -107,7 +107,7 @@ pub fn crop<R: Threads + Sync>(
     input: &Plane,
     region: Region,
 ) -> Result<Plane, AllocError>
-    requires within { IsCropWithin params.now }
+    requires within { IsWithin (crop_params params.now) }
     requires can { CanMove (crop_params params.now) input.now region }
     ensures area { IfOk result (λ p. p.area ≡ region) }
     ensures cut { IfOk result (λ p. (q : Picture) → IsCutOf q input.now → IsCutOf (cropped_picture params.now q) p) }
@@ -122,7 +122,7 @@ pub fn crop_in_turn(
     input: &Plane,
     region: Region,
 ) -> Result<Plane, AllocError>
-    requires within { IsCropWithin params.now }
+    requires within { IsWithin (crop_params params.now) }
     requires can { CanMove (crop_params params.now) input.now region }
     ensures area { IfOk result (λ p. p.area ≡ region) }
     ensures cut { IfOk result (λ p. (q : Picture) → IsCutOf q input.now → IsCutOf (cropped_picture params.now q) p) }

@@ -8,7 +8,7 @@ use Rattle.dev_core.specs.Subject.{SubjectSeen}
 use Rattle.dev_core.proofs.BuiltLemmas.{built_at}
 use Rattle.dev_core.proofs.showing.make_frame.Goals as goal
 
-pub shown_bytes-requires-clause-plain : goal.shown_bytes-requires-clause-built
+pub shown_bytes-requires-clause-plain : goal.shown_bytes-requires-clause-plain
 shown_bytes-requires-clause-plain g c =
     let job = c.args.job.now in
     let built = subst (λ (x : SubjectSeen). IsBuiltScript x.script) (c.deref.ensures ∙ c.subject.ensures) c.source-source.ensures.built in

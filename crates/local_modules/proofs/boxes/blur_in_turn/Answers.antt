@@ -3,7 +3,7 @@ use Rattle.std.proofs.lemmas.Result.{IfOk-weaker}
 use Rattle.px.proofs.PaintedLemmas.{cut_of_rgb}
 use Rattle.local_modules.specs.Blurring.{blurred_picture}
 use Rattle.local_modules.proofs.BoxLemmas.{pixel_of_whole, painted_shape}
-use Rattle.local_modules.proofs.blurring.blur_in_turn.Goals as goal
+use Rattle.local_modules.proofs.boxes.blur_in_turn.Goals as goal
 
 pub returns-clause-shaped : goal.returns-clause-shaped
 returns-clause-shaped c =

@@ -1,6 +1,6 @@
 use Rattle.std.proofs.lemmas.Result.{IfOk-weaker}
 use Rattle.local_modules.specs.Blurring.{blurred_picture}
-use Rattle.local_modules.proofs.blurring.blur.Goals as goal
+use Rattle.local_modules.proofs.boxes.blur.Goals as goal
 
 pub returns-clause-cut : goal.returns-clause-cut
 returns-clause-cut g c =

@@ -1,7 +1,7 @@
 use Rattle.std.proofs.Common.{refl, ap, sym, arith}
 use Rattle.px.specs.Area.{Area}
 use Rattle.px.proofs.PaintedLemmas.{painted_of_rows}
-use Rattle.local_modules.proofs.blurring.painted.Goals as goal
+use Rattle.local_modules.proofs.boxes.painted.Goals as goal
 
 pub returns : goal.returns
 returns c =
