@@ -1,5 +1,5 @@
 -- The derived equality of settings and of blends tells sameness.
-use Rattle.std.proofs.Common.{◌≡◌, ℕ, ℤ, Bool, true, false, ◌&&◌, nat_eq, List, refl, sym, subst, Option, Some, None}
+use Rattle.std.proofs.Common.{◌≡◌, ℕ, ℤ, Bool, true, false, ◌&&◌, nat_eq, List, refl, subst, Option, Some, None}
 use Rattle.std.specs.Bool.{Decides}
 use Rattle.std.specs.Cmp.{unsigned_Decides, signed_Decides}
 use Rattle.std.specs.Cmp.Lexicographic.{pointwise}
@@ -139,7 +139,6 @@ sharpen_same x y h =
     let radius = num x.radius y.radius s.0 in
     let amount = num x.amount y.amount s.1 in
     λ i. record { radius = radius i; amount = amount i }
-
 
 -- equal settings are the same settings
 pub params_same : (x y : Params) → (params_eq.ghosts).eq x y ≡ true → x ≡ y
