@@ -2,7 +2,7 @@
 use dev_core::{Subject, is_built};
 use edit_steps::{Script, Settings};
 use history::History;
-use pipe_nodes::Source;
+use modules_raw::Source;
 use std::alloc::{AllocError, Global};
 use std::process::Abort;
 use std::sync::Arc;

@@ -14,29 +14,29 @@ use Rattle.edit_steps.specs.declared.step.Step.TheVariants as steps
 use Rattle.undo_stack.specs.Undoing.{undone_to, redone_to}
 use Rattle.edit_steps.specs.Changes.{is_change, changes_of, Histories, first_histories, histories_behind, histories_after}
 use Rattle.edit_steps.specs.Script.{Recipe, history_at}
-use Rattle.pipe_nodes.specs.Active.{IsBuilt}
-use Rattle.pipe_nodes.specs.Actives.{IsBuiltItem, actives_of}
-use Rattle.pipe_nodes.proofs.ActivesLemmas.{actives-built}
+use Rattle.pipe_nodes.specs.Active.{IsPlain}
+use Rattle.pipe_nodes.specs.Actives.{IsPlainItem, actives_of}
+use Rattle.pipe_nodes.proofs.ActivesLemmas.{actives-plain}
 use Rattle.dev_core.specs.Built.{IsBuiltEdit, IsBuiltStep, IsBuiltScript}
 
-set_built : (items : List Item) (item : Item) → All IsBuiltItem items → IsBuiltItem item → All IsBuiltItem (with_item items item)
+set_built : (items : List Item) (item : Item) → All IsPlainItem items → IsPlainItem item → All IsPlainItem (with_item items item)
 set_built items item all one =
-    let top : All IsBuiltItem (item ∷ []) = All-cons IsBuiltItem item [] one (All-nil IsBuiltItem) in
-    elim (overwrites items item) as (λ b. All IsBuiltItem (cond b (take (length items - 1) items ++ item ∷ []) (items ++ item ∷ []))) [
-      | true ↦ All-append IsBuiltItem (take (length items - 1) items) (item ∷ []) (All-take IsBuiltItem (length items - 1) items all) top
-      | false ↦ All-append IsBuiltItem items (item ∷ []) all top
+    let top : All IsPlainItem (item ∷ []) = All-cons IsPlainItem item [] one (All-nil IsPlainItem) in
+    elim (overwrites items item) as (λ b. All IsPlainItem (cond b (take (length items - 1) items ++ item ∷ []) (items ++ item ∷ []))) [
+      | true ↦ All-append IsPlainItem (take (length items - 1) items) (item ∷ []) (All-take IsPlainItem (length items - 1) items all) top
+      | false ↦ All-append IsPlainItem items (item ∷ []) all top
     ]
 
-edit_built : (h : Stack) (e : Edit) → All IsBuiltItem h.items → IsBuiltEdit e → All IsBuiltItem (after h e).items
-edit_built h (edits.Set item) all one = set_built (live_items h) item (All-take IsBuiltItem h.end h.items all) one
+edit_built : (h : Stack) (e : Edit) → All IsPlainItem h.items → IsBuiltEdit e → All IsPlainItem (after h e).items
+edit_built h (edits.Set item) all one = set_built (live_items h) item (All-take IsPlainItem h.end h.items all) one
 edit_built h (edits.Select end) all one = all
-edit_built h edits.Compress all one = All-last_items IsBuiltItem (live_items h) (All-take IsBuiltItem h.end h.items all)
+edit_built h edits.Compress all one = All-last_items IsPlainItem (live_items h) (All-take IsPlainItem h.end h.items all)
 edit_built h (edits.Add m instance place) all one = all
-edit_built h (edits.Delete m instance) all one = All-filter _ IsBuiltItem h.items all
+edit_built h (edits.Delete m instance) all one = All-filter _ IsPlainItem h.items all
 edit_built h (edits.Move m instance place) all one = all
 
 abbrev HasBuilt : Stack → Type 0
-HasBuilt h = All IsBuiltItem h.items
+HasBuilt h = All IsPlainItem h.items
 
 -- a run can make each of the histories
 record AreBuilt (hs : Histories) : Type 0 where
@@ -75,7 +75,7 @@ first_built : (r : Recipe) → IsBuiltScript r → AreBuilt (first_histories r.s
 first_built r built = record { present = built.opening; past = All-nil HasBuilt; future = All-nil HasBuilt }
 
 -- a run can make what is active at each moment
-pub built_at : (r : Recipe) (m : ℕ) → IsBuiltScript r → All IsBuilt (actives_of (history_at r m))
+pub built_at : (r : Recipe) (m : ℕ) → IsBuiltScript r → All IsPlain (actives_of (history_at r m))
 built_at r m built =
     let each = All-take IsBuiltStep m (changes_of r.steps) (All-filter is_change IsBuiltStep r.steps built.steps) in
-    actives-built (history_at r m) (steps_built (first_histories r.settings r.opening) (take m (changes_of r.steps)) (first_built r built) each).present
+    actives-plain (history_at r m) (steps_built (first_histories r.settings r.opening) (take m (changes_of r.steps)) (first_built r built) each).present

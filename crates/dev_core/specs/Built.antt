@@ -6,10 +6,10 @@ use Rattle.history.specs.declared.edits.Edit.TheVariants as edits
 use Rattle.edit_steps.specs.declared.step.Step.{Step}
 use Rattle.edit_steps.specs.declared.step.Step.TheVariants as steps
 use Rattle.edit_steps.specs.Script.{Recipe}
-use Rattle.pipe_nodes.specs.Actives.{IsBuiltItem}
+use Rattle.pipe_nodes.specs.Actives.{IsPlainItem}
 
 abbrev pub IsBuiltEdit : Edit → Type 0
-IsBuiltEdit (edits.Set item) = IsBuiltItem item
+IsBuiltEdit (edits.Set item) = IsPlainItem item
 IsBuiltEdit (edits.Select end) = ⊤
 IsBuiltEdit edits.Compress = ⊤
 IsBuiltEdit (edits.Add m instance place) = ⊤
@@ -28,5 +28,5 @@ IsBuiltStep steps.Settle = ⊤
 
 -- each item, of the opening history and of the steps, is of a module that is built, and has no blend
 pub record IsBuiltScript (r : Recipe) : Type 0 where
-  pub opening : All IsBuiltItem r.opening.items
+  pub opening : All IsPlainItem r.opening.items
   pub steps : All IsBuiltStep r.steps

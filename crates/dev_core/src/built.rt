@@ -1,18 +1,18 @@
 //! Scripts whose pictures a run can make so far.
 ghost use Rattle.std.specs.Prelude.{◌≡◌, ◌↔◌, IsTrue};
 ghost use Rattle.std.specs.List.{All};
-ghost use Rattle.pipe_nodes.specs.Actives.{IsBuiltItem};
+ghost use Rattle.pipe_nodes.specs.Actives.{IsPlainItem};
 ghost use Rattle.dev_core.specs.Built.{IsBuiltEdit, IsBuiltStep, IsBuiltScript};
 
 use edit_steps::{Script, Step};
 use history::{Edit, Item};
-use pipe_nodes::is_built_item;
+use pipe_nodes::is_plain_item;
 
 fn is_built_edit(edit: &Edit) -> bool
     ensures { IsTrue result ↔ IsBuiltEdit edit.now }
 {
     match edit {
-        Edit::Set(item) => is_built_item(item),
+        Edit::Set(item) => is_plain_item(item),
         _ => true,
     }
 }
@@ -27,9 +27,9 @@ fn is_built_step(step: &Step) -> bool
 }
 
 fn are_built_items(items: &[Item]) -> bool
-    ensures { IsTrue result ↔ All IsBuiltItem items.now }
+    ensures { IsTrue result ↔ All IsPlainItem items.now }
 {
-    items.iter().all(|item| is_built_item(item))
+    items.iter().all(|item| is_plain_item(item))
 }
 
 fn are_built_steps(steps: &[Step]) -> bool

@@ -1,5 +1,5 @@
 use edit_steps::Script;
-use pipe_nodes::Source;
+use modules_raw::Source;
 use std::marker::Model;
 use std::sync::Arc;
 

@@ -1,10 +1,17 @@
 //! The program: the develop core from the command line, over real files and standard output.
 #![tactic(auto)]
 
-use develop_session::run_words;
-use outside::{HostSaid, HostShelf};
+ghost use Rattle.std.specs.Prelude.{◌≡◌, Ok};
+ghost use Rattle.std.specs.IoError.{error_kind};
+ghost use Rattle.std.specs.Process.{exit_status};
+ghost use Rattle.develop_session.specs.Texts.{code_of};
+
+use develop_session::{Status, run_words};
+use outside::{HostSaid, HostShelf, Said};
+use std::io::ErrorKind;
 use std::process::ExitCode;
-use std::rt::Env;
+use std::rt::{Env, Files};
+use std::thread::Threads;
 use std::{env, io};
 
 // The words after the program's name.
@@ -16,10 +23,45 @@ fn words<R: Env + AllocGlobal>(rt: &R) -> io::Result<Vec<String>> {
     Ok(words)
 }
 
+// What words that can't be read end with: out of memory is a status, all else the runtime's own message.
+fn unread(error: io::Error) -> io::Result<Status>
+    ensures memory { error_kind error ≡ ErrorKind.OutOfMemory → result ≡ Ok Status.OutOfMemory }
+{
+    if error.kind() == ErrorKind::OutOfMemory {
+        Ok(Status::OutOfMemory)
+    } else {
+        Err(error)
+    }
+}
+
+// Runs the command that the words are over real files.
+fn run<R: Env + Files + AllocGlobal + Threads + Sync, O: Said>(
+    rt: &R,
+    said: &mut O,
+) -> io::Result<Status> {
+    match words(rt) {
+        Ok(words) => {
+            let mut shelf = HostShelf::new(rt);
+            let status = run_words(rt, rt.alloc(), words.as_slice(), &mut shelf, said);
+            Ok(status)
+        }
+        Err(error) => {
+            let status = unread(error)?;
+            let _ = said.say("out of memory\n".as_bytes());
+            Ok(status)
+        }
+    }
+}
+
+// The number that the process exits with.
+fn exit_code(status: &Status) -> ExitCode
+    ensures { exit_status result ≡ code_of status.now }
+{
+    ExitCode::from(status.code())
+}
+
 fn main(rt: HostRuntime) -> io::Result<ExitCode> {
-    let words = words(&rt)?;
-    let mut shelf = HostShelf::new(&rt);
     let mut said = HostSaid::new(rt.stdout());
-    let status = run_words(&rt, rt.alloc(), words.as_slice(), &mut shelf, &mut said);
-    Ok(ExitCode::from(status.code()))
+    let status = run(&rt, &mut said)?;
+    Ok(exit_code(&status))
 }

@@ -1,15 +1,19 @@
 -- what the front of a file tells of the file
-use Rattle.std.proofs.Common.{◌≡◌, ℕ, List, take, Option, Some, None, Ok, Err, refl, sym, subst}
+use Rattle.std.proofs.Common.{◌≡◌, ℕ, List, take, Option, Some, None, Ok, Err, refl, sym, subst, ap, ◌∙◌}
 use Rattle.std.specs.Prelude.{option_map}
 use Rattle.px.specs.Picture.{Picture}
 use Rattle.edit_steps.specs.declared.fault.ScriptFault.{ScriptFault}
 use Rattle.edit_steps.specs.Script.{Recipe}
 use Rattle.outside.specs.Shelf.{Files, held}
+use Rattle.px.specs.declared.kind.Cfa.{Cfa}
+use Rattle.pnm.specs.declared.fault.PnmFault.{PnmFault}
+use Rattle.pnm.specs.Fault.{fault_of}
 use Rattle.pnm.specs.Pnm.{IsPicture}
+use Rattle.pnm.proofs.FrontLemmas.{picture-front}
 use Rattle.edit_script.specs.Script.{script_of}
 use Rattle.stepped.specs.declared.event.Event.{Event}
 use Rattle.stepped.specs.Reads.{events_of}
-use Rattle.develop_session.specs.Files.{HasScript, HasBadScript, HasSource, HasNoSource, HasEvents, HasNoEvents}
+use Rattle.develop_session.specs.Files.{HasScript, HasBadScript, HasSource, HasBadSource, HasEvents, HasNoEvents}
 
 -- a file whose front was read stands there
 pub record HasFront (name : List ℕ) (fs : Files) (n : ℕ) (front : List ℕ) : Type 0 where
@@ -44,24 +48,15 @@ pub has_no_events : (name : List ℕ) (fs : Files) (front : List ℕ) → ((text
 has_no_events name fs front tells e = let file = front_read name fs 4194305 front e in
     record { bytes = file.bytes; stands = file.stands; reads = tells file.bytes file.front_is }
 
-source_front : (name : List ℕ) (fs : Files) (front : List ℕ) (q : Picture) → IsPicture front None q → HasFront name fs 268435456 front → HasSource name fs q
-source_front name fs front q shows file = record {
-  bytes = file.bytes;
-  stands = file.stands;
-  shows = subst (λ t. IsPicture t None q) (sym file.front_is) shows;
-}
+-- the front of a source is that picture
+pub has_source : (name : List ℕ) (cfa : Option Cfa) (fs : Files) (n : ℕ) (front : List ℕ) (q : Picture) → IsPicture front cfa q → option_map (take n) (held fs name) ≡ Some front → HasSource name cfa fs q
+has_source name cfa fs n front q shows e =
+    let file = front_read name fs n front e in
+    record { bytes = file.bytes; stands = file.stands; shows = picture-front n file.bytes cfa q (subst (λ t. IsPicture t cfa q) (sym file.front_is) shows) }
 
-pub has_source : (name : List ℕ) (fs : Files) (n : ℕ) (front : List ℕ) (q : Picture) → n ≡ 268435456 → IsPicture front None q → option_map (take n) (held fs name) ≡ Some front → HasSource name fs q
-has_source name fs n front q all shows e =
-    source_front name fs front q shows (front_read name fs 268435456 front (subst (λ m. option_map (take m) (held fs name) ≡ Some front) all e))
-
-no_source_front : (name : List ℕ) (fs : Files) (front : List ℕ) → ((q : Picture) → IsPicture front None q → ⊥) → HasFront name fs 268435456 front → HasNoSource name fs
-no_source_front name fs front none file = record {
-  bytes = file.bytes;
-  stands = file.stands;
-  shows = λ q shows. none q (subst (λ t. IsPicture t None q) file.front_is shows);
-}
-
-pub has_no_source : (name : List ℕ) (fs : Files) (n : ℕ) (front : List ℕ) → n ≡ 268435456 → ((q : Picture) → IsPicture front None q → ⊥) → option_map (take n) (held fs name) ≡ Some front → HasNoSource name fs
-has_no_source name fs n front all none e =
-    no_source_front name fs front none (front_read name fs 268435456 front (subst (λ m. option_map (take m) (held fs name) ≡ Some front) all e))
+-- the front of a source has that fault
+pub has_bad_source : (name : List ℕ) (cfa : Option Cfa) (fault : PnmFault) (fs : Files) (n : ℕ) (front : List ℕ) → n ≡ 268435456 → fault_of front cfa ≡ Some fault
+    → option_map (take n) (held fs name) ≡ Some front → HasBadSource name cfa fault fs
+has_bad_source name cfa fault fs n front all refused e =
+    let file = front_read name fs n front e in
+    record { bytes = file.bytes; stands = file.stands; reads = ap (λ t. fault_of t cfa) (ap (λ m. take m file.bytes) (sym all) ∙ file.front_is) ∙ refused }

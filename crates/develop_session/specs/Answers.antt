@@ -8,7 +8,7 @@ use Rattle.develop_session.specs.declared.status.Status.TheVariants as status
 use Rattle.develop_session.specs.Words.{Command}
 use Rattle.develop_session.specs.Texts.{developed_text, refusal_text}
 use Rattle.dev_core.specs.Built.{IsBuiltScript}
-use Rattle.develop_session.specs.Files.{HasBadScript, HasScriptThat, HasScriptBut, HasNoSource}
+use Rattle.develop_session.specs.Files.{HasBadScript, HasScriptThat, HasScriptBut, HasBadSource}
 use Rattle.develop_session.specs.Develop.{IsDeveloped, IsPutInPart}
 use Rattle.develop_session.specs.Failures.{Tells}
 
@@ -27,7 +27,7 @@ abbrev pub Refuses : Command → Option Files → Option Files → (List ℕ →
 Refuses c old new read_rose put_rose status.OutOfMemory = new ≡ old
 Refuses c old new read_rose put_rose (status.ScriptRefused step reason) = (new ≡ old) × IfSome old (HasBadScript c.script (record { step = step; reason = reason }))
 Refuses c old new read_rose put_rose (status.NotYet input.Script) = (new ≡ old) × IfSome old (HasScriptBut IsBuiltScript c.script)
-Refuses c old new read_rose put_rose (status.NotYet input.Source) = (new ≡ old) × IfSome old (λ fs. HasScriptThat IsBuiltScript c.script fs × HasNoSource c.source fs)
+Refuses c old new read_rose put_rose (status.SourceRefused fault) = (new ≡ old) × IfSome old (λ fs. HasScriptThat (λ r. IsBuiltScript r × HasBadSource c.source r.settings.cfa fault fs) c.script fs)
 Refuses c old new read_rose put_rose (status.ShelfFault name) =
     ((name ≡ c.script) × read_rose name × (new ≡ old))
     ⊎ (((name ≡ c.source) × read_rose name × (new ≡ old) × IfSome old (HasScriptThat IsBuiltScript c.script))
@@ -45,6 +45,8 @@ Answers c old new read_rose put_rose said_rose was is status.Usage = ⊥
 Answers c old new read_rose put_rose said_rose was is (status.EventsRefused place reason) = ⊥
 Answers c old new read_rose put_rose said_rose was is (status.ScriptRefused step reason) =
     Refuses c old new read_rose put_rose (status.ScriptRefused step reason) × Tells (refusal_text (status.ScriptRefused step reason)) said_rose was is
+Answers c old new read_rose put_rose said_rose was is (status.SourceRefused fault) =
+    Refuses c old new read_rose put_rose (status.SourceRefused fault) × Tells (refusal_text (status.SourceRefused fault)) said_rose was is
 Answers c old new read_rose put_rose said_rose was is (status.NotYet what) =
     Refuses c old new read_rose put_rose (status.NotYet what) × Tells (refusal_text (status.NotYet what)) said_rose was is
 Answers c old new read_rose put_rose said_rose was is (status.ShelfFault name) =

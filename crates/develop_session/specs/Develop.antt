@@ -13,20 +13,23 @@ use Rattle.develop_session.specs.Words.{Command}
 abbrev pub developed : Recipe → Picture → Picture
 developed script q = picture_at q script (changes script)
 
+-- the sides of a picture: columns, then rows
+abbrev pub sides_of : Picture → ℕ × ℕ
+sides_of q = (q.w, q.h)
+
 -- the bytes that the command writes, at the depth of the script's settings
 abbrev pub out_bytes : Recipe → Picture → List ℕ
 out_bytes script q = written (developed script q) script.settings.depth
 
--- Script and source stood there, and the new files are the old ones with the written bytes of the developed picture put
--- at OUT, and nothing else.
+-- Script and source stood there, and the new files are the old ones with the written bytes of the developed picture, of these
+-- sides, put at OUT, and nothing else.
 pub record IsDeveloped (c : Command) (fs : Files) (w h : ℕ) (new : Option Files) : Type 0 where
   pub recipe : Recipe
   pub picture : Picture
   pub script : HasScript c.script fs recipe
   pub built : IsBuiltScript recipe
-  pub source : HasSource c.source fs picture
-  pub wide : picture.w ≡ w
-  pub high : picture.h ≡ h
+  pub source : HasSource c.source recipe.settings.cfa fs picture
+  pub sides : (w, h) ≡ sides_of (developed recipe picture)
   pub put : new ≡ Some (with_file c.out (out_bytes recipe picture) fs)
 
 -- the same, but that OUT has its old state or a prefix of those bytes
@@ -35,5 +38,5 @@ pub record IsPutInPart (c : Command) (fs : Files) (new : Option Files) : Type 0 
   pub picture : Picture
   pub script : HasScript c.script fs recipe
   pub built : IsBuiltScript recipe
-  pub source : HasSource c.source fs picture
+  pub source : HasSource c.source recipe.settings.cfa fs picture
   pub put : PutsInPart c.out (out_bytes recipe picture) (Some fs) new

@@ -1,7 +1,10 @@
 -- the answer of each part of a command with its cause
 use Rattle.std.specs.Prelude.{◌≡◌, ◌⊎◌, ℕ, List, Option, IfSome}
+use Rattle.px.specs.declared.kind.Cfa.{Cfa}
 use Rattle.outside.specs.Shelf.{Files, PutsInPart}
 use Rattle.outside.specs.Said.{Says, SaysInPart}
+use Rattle.outside.specs.declared.failed.Failed.{Failed}
+use Rattle.outside.specs.declared.failed.Failed.TheVariants as failed
 use Rattle.edit_steps.specs.Script.{Recipe}
 use Rattle.dev_core.specs.Subject.{SubjectSeen}
 use Rattle.stepped.specs.declared.event.Event.{Event}
@@ -12,9 +15,14 @@ use Rattle.publish.specs.declared.put_end.PutEnd.TheVariants as put_end
 use Rattle.develop_session.specs.declared.status.Input.TheVariants as input
 use Rattle.develop_session.specs.declared.status.Status.{Status}
 use Rattle.develop_session.specs.declared.status.Status.TheVariants as status
-use Rattle.develop_session.specs.Files.{HasBadScript, HasScriptThat, HasScriptBut, HasNoSource, HasNoEvents}
+use Rattle.develop_session.specs.Files.{HasBadScript, HasScriptThat, HasScriptBut, HasBadSource, HasNoEvents}
 use Rattle.develop_session.specs.Replay.{HasLargeSource, IsServed}
 use Rattle.develop_session.specs.Words.{Replay}
+
+-- the status of a failed call of the shelf at a name: a fault tells the name
+abbrev pub failed_status : List ℕ → Failed → Status
+failed_status name failed.Fault = status.ShelfFault name
+failed_status name failed.Memory = status.OutOfMemory
 
 -- a file failed: want of memory, or a fault of this name whose count rose
 abbrev pub FailsAt : List ℕ → Type 0 → Status → Type 0
@@ -45,28 +53,26 @@ ReadFails name old rose (status.ShelfFault at) = (at ≡ name) × rose
 ReadFails name old rose _ = ⊥
 
 -- the source wasn't read
-abbrev pub SourceFails : List ℕ → Option Files → Type 0 → Status → Type 0
-SourceFails name old rose (status.NotYet input.Source) = IfSome old (HasNoSource name)
-SourceFails name old rose status.OutOfMemory = Unit {0}
-SourceFails name old rose (status.ShelfFault at) = (at ≡ name) × rose
-SourceFails name old rose _ = ⊥
-
--- the file is no picture, or one that isn't small
-abbrev pub HasNoSmallSource : List ℕ → Files → Type 0
-HasNoSmallSource name fs = HasNoSource name fs ⊎ HasLargeSource name fs
+abbrev pub SourceFails : List ℕ → Option Cfa → Option Files → Type 0 → Status → Type 0
+SourceFails name cfa old rose (status.SourceRefused fault) = IfSome old (HasBadSource name cfa fault)
+SourceFails name cfa old rose status.OutOfMemory = Unit {0}
+SourceFails name cfa old rose (status.ShelfFault at) = (at ≡ name) × rose
+SourceFails name cfa old rose _ = ⊥
 
 -- the source wasn't read, or isn't small
-abbrev pub SmallSourceFails : List ℕ → Option Files → Type 0 → Status → Type 0
-SmallSourceFails name old rose (status.NotYet input.Source) = IfSome old (HasNoSmallSource name)
-SmallSourceFails name old rose status.OutOfMemory = Unit {0}
-SmallSourceFails name old rose (status.ShelfFault at) = (at ≡ name) × rose
-SmallSourceFails name old rose _ = ⊥
+abbrev pub SmallSourceFails : List ℕ → Option Cfa → Option Files → Type 0 → Status → Type 0
+SmallSourceFails name cfa old rose (status.SourceRefused fault) = IfSome old (HasBadSource name cfa fault)
+SmallSourceFails name cfa old rose (status.NotYet input.Source) = IfSome old (HasLargeSource name cfa)
+SmallSourceFails name cfa old rose status.OutOfMemory = Unit {0}
+SmallSourceFails name cfa old rose (status.ShelfFault at) = (at ≡ name) × rose
+SmallSourceFails name cfa old rose _ = ⊥
 
 -- the script or the source wasn't read, or isn't served
 abbrev pub SubjectFails : Replay → Option Files → (List ℕ → Type 0) → Status → Type 0
 SubjectFails c old rose (status.ScriptRefused step reason) = IfSome old (HasBadScript c.script (record { step = step; reason = reason }))
 SubjectFails c old rose (status.NotYet input.Script) = IfSome old (HasScriptBut IsServed c.script)
-SubjectFails c old rose (status.NotYet input.Source) = IfSome old (λ fs. HasScriptThat IsServed c.script fs × HasNoSmallSource c.source fs)
+SubjectFails c old rose (status.SourceRefused fault) = IfSome old (λ fs. HasScriptThat (λ r. IsServed r × HasBadSource c.source r.settings.cfa fault fs) c.script fs)
+SubjectFails c old rose (status.NotYet input.Source) = IfSome old (λ fs. HasScriptThat (λ r. IsServed r × HasLargeSource c.source r.settings.cfa fs) c.script fs)
 SubjectFails c old rose status.OutOfMemory = Unit {0}
 SubjectFails c old rose (status.ShelfFault name) = ((name ≡ c.script) × rose name) ⊎ ((name ≡ c.source) × rose name × IfSome old (HasScriptThat IsServed c.script))
 SubjectFails c old rose _ = ⊥

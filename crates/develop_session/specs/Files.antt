@@ -1,6 +1,9 @@
 -- what stands under the names of a command
-use Rattle.std.specs.Prelude.{◌≡◌, ℕ, List, take, Some, None, Ok, Err}
+use Rattle.std.specs.Prelude.{◌≡◌, ℕ, List, take, Option, Some, None, Ok, Err}
 use Rattle.px.specs.Picture.{Picture}
+use Rattle.px.specs.declared.kind.Cfa.{Cfa}
+use Rattle.pnm.specs.declared.fault.PnmFault.{PnmFault}
+use Rattle.pnm.specs.Fault.{fault_of}
 use Rattle.pnm.specs.Pnm.{IsPicture}
 use Rattle.outside.specs.Shelf.{Files, held}
 use Rattle.edit_steps.specs.declared.fault.ScriptFault.{ScriptFault}
@@ -29,17 +32,17 @@ HasScriptThat P name fs = (script : Recipe) × HasScript name fs script × P scr
 abbrev pub HasScriptBut : (Recipe → Type 0) → List ℕ → Files → Type 0
 HasScriptBut P name fs = (script : Recipe) × HasScript name fs script × (P script → ⊥)
 
--- The file under the name is this picture, read without a colour filter array. Its first 268,435,456 bytes are looked at.
-pub record HasSource (name : List ℕ) (fs : Files) (q : Picture) : Type 0 where
+-- the file under the name is this picture, by the colour filter array
+pub record HasSource (name : List ℕ) (cfa : Option Cfa) (fs : Files) (q : Picture) : Type 0 where
   pub bytes : List ℕ
   pub stands : held fs name ≡ Some bytes
-  pub shows : IsPicture (take 268435456 bytes) None q
+  pub shows : IsPicture bytes cfa q
 
--- the file under the name is no picture
-pub record HasNoSource (name : List ℕ) (fs : Files) : Type 0 where
+-- the file under the name is no picture, and this is its first fault. Its first 268,435,456 bytes are looked at
+pub record HasBadSource (name : List ℕ) (cfa : Option Cfa) (fault : PnmFault) (fs : Files) : Type 0 where
   pub bytes : List ℕ
   pub stands : held fs name ≡ Some bytes
-  pub shows : (q : Picture) → IsPicture (take 268435456 bytes) None q → ⊥
+  pub reads : fault_of (take 268435456 bytes) cfa ≡ Some fault
 
 -- the file under the name is this list of events
 pub record HasEvents (name : List ℕ) (fs : Files) (events : List Event) : Type 0 where

@@ -1,6 +1,7 @@
 -- what `stepped` makes of its files
 use Rattle.std.specs.Prelude.{◌≡◌, ◌↔◌, ℕ, ◌≤◌, ⊤, List, length, IsTrue, Option, None, IfSome}
 use Rattle.std.specs.List.{All}
+use Rattle.px.specs.declared.kind.Cfa.{Cfa}
 use Rattle.px.specs.Picture.{Picture}
 use Rattle.px.specs.Cut.{picture_of}
 use Rattle.outside.specs.Shelf.{Files}
@@ -21,9 +22,9 @@ use Rattle.develop_session.specs.Files.{HasScript, HasSource, HasEvents}
 use Rattle.develop_session.specs.declared.tally.Tally.{Tally}
 use Rattle.develop_session.specs.Words.{Replay}
 
--- at most 720 pixels wide and 480 high
+-- at most 480 pixels wide and high, so that the default view shows it whole, also when it is turned
 pub record IsSmall (q : Picture) : Type 0 where
-  pub wide : q.w ≤ 720
+  pub wide : q.w ≤ 480
   pub high : q.h ≤ 480
 
 -- the desk serves the step so far
@@ -49,15 +50,15 @@ pub record IsServed (script : Recipe) : Type 0 where
 pub record HasSubject (c : Replay) (fs : Files) (s : SubjectSeen) : Type 0 where
   pub script : HasScript c.script fs s.script
   pub served : IsServed s.script
-  pub source : HasSource c.source fs (picture_of s.source)
+  pub source : HasSource c.source s.script.settings.cfa fs (picture_of s.source)
   pub small : IsSmall (picture_of s.source)
 
 abbrev pub HasSomeSubject : Replay → Files → Type 0
 HasSomeSubject c fs = (s : SubjectSeen) × HasSubject c fs s
 
 -- the file under the name is a picture that isn't small
-abbrev pub HasLargeSource : List ℕ → Files → Type 0
-HasLargeSource name fs = (q : Picture) × HasSource name fs q × (IsSmall q → ⊥)
+abbrev pub HasLargeSource : List ℕ → Option Cfa → Files → Type 0
+HasLargeSource name cfa fs = (q : Picture) × HasSource name cfa fs q × (IsSmall q → ⊥)
 
 -- subject and events stand there
 pub record HasReplay (c : Replay) (s : SubjectSeen) (events : List Event) (fs : Files) : Type 0 where

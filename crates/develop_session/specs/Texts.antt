@@ -1,6 +1,7 @@
 -- the lines that are said, and the numbers of the statuses
 use Rattle.std.specs.Prelude.{ℕ, Bool, true, false, List, [], ◌++◌, codes}
 use Rattle.std.specs.Fmt.{decimal}
+use Rattle.pnm.specs.Texts.{kind_text}
 use Rattle.edit_steps.specs.Texts as script
 use Rattle.stepped.specs.Texts as events
 use Rattle.develop_session.specs.declared.status.Input.TheVariants as input
@@ -12,6 +13,7 @@ abbrev pub code_of : Status → ℕ
 code_of status.Ok = 0
 code_of status.Usage = 1
 code_of (status.ScriptRefused step reason) = 2
+code_of (status.SourceRefused fault) = 3
 code_of (status.EventsRefused place reason) = 4
 code_of (status.ShelfFault name) = 5
 code_of status.SaidFault = 6
@@ -35,6 +37,7 @@ abbrev pub refusal_text : Status → List ℕ
 refusal_text status.Usage = codes "usage: devcore develop SCRIPT SOURCE OUT, stepped SCRIPT SOURCE EVENTS, session SCRIPT SOURCE, generate N\n"
 refusal_text (status.ShelfFault name) = codes "shelf fault: " ++ (name ++ codes "\n")
 refusal_text (status.ScriptRefused step reason) = codes "script refused at step " ++ (decimal step ++ (codes ": " ++ (script.reason_text reason ++ codes "\n")))
+refusal_text (status.SourceRefused fault) = codes "source refused at byte " ++ (decimal fault.place ++ (codes ": " ++ (kind_text fault.kind ++ codes "\n")))
 refusal_text (status.EventsRefused place reason) = codes "events refused at event " ++ (decimal place ++ (codes ": " ++ (events.reason_text reason ++ codes "\n")))
 refusal_text status.OutOfMemory = codes "out of memory\n"
 refusal_text (status.NotYet input.Script) = codes "not yet: script\n"

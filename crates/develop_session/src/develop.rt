@@ -4,7 +4,7 @@ ghost use Rattle.px.specs.Cut.{picture_of};
 ghost use Rattle.dev_core.specs.Built.{IsBuiltScript};
 ghost use Rattle.outside.specs.Faults.{Rose};
 ghost use Rattle.publish.specs.Files.{RoseAt};
-ghost use Rattle.develop_session.specs.Develop.{out_bytes};
+ghost use Rattle.develop_session.specs.Develop.{developed, out_bytes, sides_of};
 ghost use Rattle.develop_session.specs.Failures.{SaysLine};
 ghost use Rattle.develop_session.specs.Answers.{Answers, Develops, Refuses};
 ghost use Rattle.develop_session.specs.Names.{command};
@@ -16,20 +16,22 @@ use crate::devices::{put_file, say_line, tell};
 use crate::inputs::{SOURCE_FRONT, read_built_script, read_source};
 use crate::status::Status;
 use edit_steps::Script;
+use modules_raw::Source;
 use outside::{Said, Shelf};
-use pipe_nodes::{Source, shown_bytes};
+use pipe_nodes::shown_bytes;
 use std::alloc::{AllocError, Global};
 use std::thread::Threads;
 
-// The written bytes of the picture as the whole script develops it.
+// The sides and the written bytes of the picture as the whole script develops it.
 fn develop_bytes<R: Threads + Sync>(
     rt: &R,
     alloc: Global,
     script: &Script,
     source: &Source,
-) -> Result<Vec<u8>, AllocError>
+) -> Result<(u32, u32, Vec<u8>), AllocError>
     requires { IsBuiltScript script.now }
-    ensures { IfOk result (λ b. b.items ≡ out_bytes script.now (picture_of source.now)) }
+    ensures sides { IfOk result (λ made. (made.0, made.1.0) ≡ sides_of (developed script.now (picture_of source.now))) }
+    ensures bytes { IfOk result (λ made. made.1.1.items ≡ out_bytes script.now (picture_of source.now)) }
 {
     let history = script.history_at(alloc, script.changes())?;
     shown_bytes(rt, alloc, source, &history, script.settings().depth)
@@ -46,10 +48,11 @@ fn develop<R: Threads + Sync, S: Shelf>(
     ensures cause { IfErr result (Refuses (command names.entry) (S.files shelf.old) (S.files shelf.new) (RoseAt (S.read_faults shelf.old) (S.read_faults shelf.new)) (RoseAt (S.put_faults shelf.old) (S.put_faults shelf.new))) }
 {
     let script = read_built_script(alloc, shelf, names.script)?;
-    let source = Source::of(read_source(alloc, shelf, names.source, SOURCE_FRONT)?);
-    let bytes = develop_bytes(rt, alloc, &script, &source)?;
+    let cfa = script.settings().cfa;
+    let plane = read_source(alloc, shelf, names.source, SOURCE_FRONT, cfa)?;
+    let (w, h, bytes) = develop_bytes(rt, alloc, &script, &Source::of(plane))?;
     put_file(alloc, shelf, names.out, bytes.as_slice())?;
-    Ok(source.plane().sides())
+    Ok((w, h))
 }
 
 // Says the line of a developed picture.

@@ -1,10 +1,10 @@
 //! One call of the shelf or the output each, answered in the words of a status.
-ghost use Rattle.std.specs.Prelude.{◌≡◌, ℕ, ◌<◌, ◌≤◌, List, take, IfOk, IfErr, IfSome, OnOk, Some, vec_len, string_bytes};
+ghost use Rattle.std.specs.Prelude.{◌≡◌, ℕ, ◌<◌, ◌≤◌, List, take, IfOk, IfErr, IfSome, OnOk, IsErrOf, Some, vec_len, string_bytes};
 ghost use Rattle.std.specs.Option.{option_map};
 ghost use Rattle.outside.specs.Faults.{Rose, NoneFalls};
 ghost use Rattle.outside.specs.Shelf.{held, Puts, PutsInPart};
 ghost use Rattle.outside.specs.Said.{Says, SaysInPart};
-ghost use Rattle.develop_session.specs.Failures.{FailsAt, PutFailsAt, SaysLine, Tells};
+ghost use Rattle.develop_session.specs.Failures.{FailsAt, failed_status, PutFailsAt, SaysLine, Tells};
 ghost use Rattle.develop_session.specs.Texts.{refusal_text};
 
 use crate::status::{Status, refusal_line};
@@ -12,20 +12,17 @@ use outside::{Failed, Name, Said, Shelf, read_front};
 use publish::PutEnd;
 use std::alloc::Global;
 
-// What a failed call of the shelf at this name answers.
-fn failed_at(alloc: Global, failed: Failed, name: &str) -> Status
-    ensures { FailsAt name.now (failed ≡ Failed.Fault) result }
+// What a failed call of the shelf at this name answers: a fault always tells the name.
+fn failed_at(failed: Failed, name: Name) -> Status
+    ensures { result ≡ failed_status name failed }
 {
     match failed {
-        Failed::Fault => match Name::of(alloc, name) {
-            Ok(name) => Status::ShelfFault { name },
-            Err(_) => Status::OutOfMemory,
-        },
+        Failed::Fault => Status::ShelfFault { name },
         Failed::Memory => Status::OutOfMemory,
     }
 }
 
-// The front of an input file.
+// The front of an input file. The name of a fault is made first, so that out of memory never hides a fault.
 pub(crate) fn read_file<S: Shelf>(
     alloc: Global,
     shelf: &mut S,
@@ -35,13 +32,17 @@ pub(crate) fn read_file<S: Shelf>(
     requires { 0 < limit }
     ensures content { IfOk result (λ v. IfSome (S.files shelf.old) (λ fs. option_map (take limit) (held fs name.now) ≡ Some v.items)) }
     ensures cause { IfErr result (FailsAt name.now (Rose (S.read_faults shelf.old name.now) (S.read_faults shelf.new name.now))) }
+    ensures memory { IsErrOf result Status.OutOfMemory → S.read_faults shelf.new name.now ≡ S.read_faults shelf.old name.now }
     ensures unchanged { S.files shelf.new ≡ S.files shelf.old }
     ensures reads { NoneFalls (S.read_faults shelf.old) (S.read_faults shelf.new) }
     ensures puts { NoneFalls (S.put_faults shelf.old) (S.put_faults shelf.new) }
 {
+    let Ok(at) = Name::of(alloc, name) else {
+        return Err(Status::OutOfMemory);
+    };
     match read_front(alloc, shelf, name, limit) {
         Ok(bytes) => Ok(bytes),
-        Err(failed) => Err(failed_at(alloc, failed, name)),
+        Err(failed) => Err(failed_at(failed, at)),
     }
 }
 

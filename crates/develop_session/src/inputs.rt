@@ -1,6 +1,5 @@
 //! The input files of a command: each read, judged and answered in the words of a status.
 ghost use Rattle.std.specs.Prelude.{◌≡◌, ℕ, ◌≤◌, List, length, IfOk, IfErr, IfSome};
-ghost use Rattle.px.specs.declared.kind.PlaneKind.TheVariants.{Rgb};
 ghost use Rattle.px.specs.Cut.{IsWhole, picture_of};
 ghost use Rattle.outside.specs.Faults.{Rose, NoneFalls};
 ghost use Rattle.develop_session.specs.Files.{HasScript, HasSource, HasEvents};
@@ -16,7 +15,7 @@ use edit_steps::{Script, ScriptEnd};
 use json_form::LONGEST;
 use outside::Shelf;
 use pnm::PnmEnd;
-use px::Plane;
+use px::{Cfa, Plane};
 use std::alloc::Global;
 use stepped::{Event, EventsEnd};
 
@@ -89,57 +88,53 @@ pub(crate) fn read_served_script<S: Shelf>(
     Ok(script)
 }
 
-/// The picture at the front of the file under a name.
+/// The picture under a name, read by the colour filter array of the script.
 pub(crate) fn read_source<S: Shelf>(
     alloc: Global,
     shelf: &mut S,
     name: &str,
     front: usize,
+    cfa: Option<Cfa>,
 ) -> Result<Plane, Status>
     requires front { front ≡ 268435456 }
-    ensures source { IfOk result (λ p. IfSome (S.files shelf.old) (λ fs. HasSource name.now fs (picture_of p))) }
+    ensures source { IfOk result (λ p. IfSome (S.files shelf.old) (λ fs. HasSource name.now cfa fs (picture_of p))) }
     ensures whole { IfOk result (λ p. IsWhole p) }
-    ensures rgb { IfOk result (λ p. p.kind ≡ Rgb) }
-    ensures cause { IfErr result (SourceFails name.now (S.files shelf.old) (Rose (S.read_faults shelf.old name.now) (S.read_faults shelf.new name.now))) }
+    ensures cause { IfErr result (SourceFails name.now cfa (S.files shelf.old) (Rose (S.read_faults shelf.old name.now) (S.read_faults shelf.new name.now))) }
     ensures unchanged { S.files shelf.new ≡ S.files shelf.old }
     ensures reads { NoneFalls (S.read_faults shelf.old) (S.read_faults shelf.new) }
     ensures puts { NoneFalls (S.put_faults shelf.old) (S.put_faults shelf.new) }
 {
     let bytes = read_file(alloc, shelf, name, front)?;
-    match pnm::read(alloc, bytes.as_slice(), None) {
+    match pnm::read(alloc, bytes.as_slice(), cfa) {
         Ok(plane) => Ok(plane),
-        Err(PnmEnd::Fault(_)) => Err(Status::NotYet {
-            what: Input::Source,
-        }),
+        Err(PnmEnd::Fault(fault)) => Err(Status::SourceRefused { fault }),
         Err(PnmEnd::Memory) => Err(Status::OutOfMemory),
     }
 }
 
-/// The greatest sides of a small source, in pixels.
-const WIDEST: u32 = 720;
+/// The longest side of a small source, in pixels.
+const SMALL_SIDE: u32 = 480;
 
-const HIGHEST: u32 = 480;
-
-/// The picture under a name, which is at most 720 pixels wide and 480 high.
+/// The picture under a name, which is at most 480 pixels wide and high.
 pub(crate) fn read_small_source<S: Shelf>(
     alloc: Global,
     shelf: &mut S,
     name: &str,
     front: usize,
+    cfa: Option<Cfa>,
 ) -> Result<Plane, Status>
     requires front { front ≡ 268435456 }
-    ensures source { IfOk result (λ p. IfSome (S.files shelf.old) (λ fs. HasSource name.now fs (picture_of p))) }
+    ensures source { IfOk result (λ p. IfSome (S.files shelf.old) (λ fs. HasSource name.now cfa fs (picture_of p))) }
     ensures whole { IfOk result (λ p. IsWhole p) }
-    ensures rgb { IfOk result (λ p. p.kind ≡ Rgb) }
     ensures small { IfOk result (λ p. IsSmall (picture_of p)) }
-    ensures cause { IfErr result (SmallSourceFails name.now (S.files shelf.old) (Rose (S.read_faults shelf.old name.now) (S.read_faults shelf.new name.now))) }
+    ensures cause { IfErr result (SmallSourceFails name.now cfa (S.files shelf.old) (Rose (S.read_faults shelf.old name.now) (S.read_faults shelf.new name.now))) }
     ensures unchanged { S.files shelf.new ≡ S.files shelf.old }
     ensures reads { NoneFalls (S.read_faults shelf.old) (S.read_faults shelf.new) }
     ensures puts { NoneFalls (S.put_faults shelf.old) (S.put_faults shelf.new) }
 {
-    let plane = read_source(alloc, shelf, name, front)?;
+    let plane = read_source(alloc, shelf, name, front, cfa)?;
     let (w, h) = plane.sides();
-    if w > WIDEST || h > HIGHEST {
+    if w > SMALL_SIDE || h > SMALL_SIDE {
         return Err(Status::NotYet {
             what: Input::Source,
         });

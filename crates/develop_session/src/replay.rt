@@ -25,7 +25,7 @@ use crate::tally::{Tally, replayed_line};
 use dev_core::Subject;
 use edit_steps::Script;
 use outside::{Said, Shelf};
-use pipe_nodes::Source;
+use modules_raw::Source;
 use publish::write_all;
 use px::Plane;
 use std::alloc::{AllocError, Global};
@@ -56,7 +56,8 @@ fn read_subject<S: Shelf>(
     ensures puts { NoneFalls (S.put_faults shelf.old) (S.put_faults shelf.new) }
 {
     let script = read_served_script(alloc, shelf, names.script)?;
-    let plane = read_small_source(alloc, shelf, names.source, SOURCE_FRONT)?;
+    let cfa = script.settings().cfa;
+    let plane = read_small_source(alloc, shelf, names.source, SOURCE_FRONT, cfa)?;
     Ok(subject_of(alloc, script, plane)?)
 }
 
@@ -125,7 +126,7 @@ fn say_replayed<O: Said>(alloc: Global, said: &mut O, tally: Tally) -> Status
 
 /// Replays the EVENTS on the picture SOURCE and the script SCRIPT, puts the files of the journal that
 /// they make, and says how many events and lines there were and whether all was done. The source is
-/// at most 720 pixels wide and 480 high.
+/// at most 480 pixels wide and high.
 pub fn run_stepped<R: Threads + Sync, S: Shelf, O: Said>(
     rt: &R,
     alloc: Global,

@@ -3,6 +3,7 @@ ghost use Rattle.develop_session.specs.Texts.{code_of, refusal_text};
 
 use edit_steps::Reason;
 use outside::Name;
+use pnm::PnmFault;
 use publish::PutEnd;
 use std::alloc::{AllocError, Global};
 use stepped::EventReason;
@@ -23,6 +24,8 @@ pub enum Status {
     Usage,
     /// The script is refused: all of it at step 0, or the step with this number, counted from 1.
     ScriptRefused { step: u32, reason: Reason },
+    /// The source is refused, with its first fault.
+    SourceRefused { fault: PnmFault },
     /// The event in this place, counted from 1, is refused.
     EventsRefused { place: u32, reason: EventReason },
     /// A fault of the shelf at this name.
@@ -66,6 +69,7 @@ impl Status {
             Status::Ok => 0,
             Status::Usage => 1,
             Status::ScriptRefused { .. } => 2,
+            Status::SourceRefused { .. } => 3,
             Status::EventsRefused { .. } => 4,
             Status::ShelfFault { .. } => 5,
             Status::SaidFault => 6,
@@ -86,6 +90,9 @@ pub(crate) fn refusal_line(alloc: Global, status: &Status) -> Result<String, All
         ),
         Status::ScriptRefused { step, reason } => {
             format!(in alloc; "script refused at step {step}: {reason}\n")
+        }
+        Status::SourceRefused { fault } => {
+            format!(in alloc; "source refused at byte {}: {}\n", fault.place, fault.kind)
         }
         Status::EventsRefused { place, reason } => {
             format!(in alloc; "events refused at event {place}: {reason}\n")

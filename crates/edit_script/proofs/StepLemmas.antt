@@ -170,10 +170,7 @@ second_within d = plain_one view_keys d (option_map steps.Second (view_at_keys d
 box_within : (b : BoxSize) → AreSides 16384 b → IsBox b
 box_within b h = record { wide = h.wide.0; not_too_wide = h.wide.1; high = h.high.0; not_too_high = h.high.1 }
 
-thumbnail_second_within : (d : Data) → IfSome (second_step_form d) IsStepWithin
-second_within d = plain_one view_keys d (option_map steps.Second (view_at_keys d)) (mapped IsStepWithin steps.Second (view_at_keys d) (view_keys_within d))
-
-box_within : (b : BoxSize) → AreSides 720 b → IsThumbnailBox b
+thumbnail_box_within : (b : BoxSize) → AreSides 720 b → IsThumbnailBox b
 thumbnail_box_within b h = record { wide = h.wide.0; not_too_wide = h.wide.1; high = h.high.0; not_too_high = h.high.1 }
 
 abbrev IsBoxOrNone : Option BoxSize → Type 0

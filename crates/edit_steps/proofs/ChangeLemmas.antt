@@ -15,7 +15,7 @@ use Rattle.undo_stack.specs.Undoing.{changed}
 use Rattle.edit_steps.specs.declared.step.Step.{Step}
 use Rattle.edit_steps.specs.declared.step.Step.TheVariants as steps
 use Rattle.edit_steps.specs.Ranges.{IsView, IsStepWithin}
-use Rattle.edit_steps.specs.Changes.{is_change, changes_of, Histories, histories_behind, histories_after, view_behind, view_after, other_view, second_behind, second_after, change_kind, kinds_along, is_top, is_synch, is_remove}
+use Rattle.edit_steps.specs.Changes.{is_change, Histories, histories_behind, histories_after, view_behind, view_after, other_view, second_behind, second_after, change_kind, kinds_along, is_top, is_synch, is_remove}
 
 -- ---- histories
 

@@ -19,7 +19,7 @@ use Rattle.edit_steps.specs.Changes.{scope_of, is_change, changes_of, Histories,
 use Rattle.edit_steps.specs.Pipes.{reaches, concerns}
 use Rattle.edit_steps.specs.Answer.{Judges}
 use Rattle.edit_steps.specs.Faults.{step_fault, next_fault, steps_fault}
-use Rattle.edit_steps.specs.Script.{Recipe, recipe, with_step, IsScript, changes, history_at, view_at, second_at, kinds_of, kinds_between, concerns_between}
+use Rattle.edit_steps.specs.Script.{Recipe, recipe, with_step, IsScript, changes, history_at, view_at, second_at, kinds_between, concerns_between}
 use Rattle.edit_steps.specs.Kept.{kept_as, kept_of, kept_along, IsKept, StandsBehind}
 use Rattle.edit_steps.proofs.ChangeLemmas.{histories_behind-same, histories_after-append, histories_after-same, view_behind-same, view_after-append, view_after-within, second_behind-same, second_after-append, second_after-within, range-kinds_along, take_on}
 use Rattle.edit_steps.proofs.FaultLemmas.{steps_fault-more, steps_fault-push, steps_fault-at, changes-few, AreAllowed, AreAllowed-all}

@@ -1,5 +1,5 @@
 -- The pipes of a subject, and the changes that concern each.
-use Rattle.std.specs.Prelude.{Bool, true, false, is_some, Option}
+use Rattle.std.specs.Prelude.{Bool, true, false, is_some}
 use Rattle.std.specs.Option.{option_map_or}
 use Rattle.outside.specs.declared.job_name.Pipe.{Pipe}
 use Rattle.outside.specs.declared.job_name.Pipe.TheVariants as pipes

@@ -1,6 +1,9 @@
 -- Lemmas on the regions that modules need.
 use Rattle.std.proofs.Common.{◌≡◌, ℕ, ◌+◌, ◌-◌, ◌<◌, ◌≤◌, min, max, Bool, true, false, refl, sym, ap, ◌∙◌, subst, arith}
 use Rattle.std.specs.Bool.{if◌then◌else◌}
+use Rattle.std.proofs.lemmas.Int.{ints}
+use Rattle.params.specs.declared.settings.BoxBlur.{BoxBlur}
+use Rattle.params.specs.declared.settings.Sharpen.{Sharpen}
 use Rattle.params.specs.declared.settings.Params.{Params}
 use Rattle.params.specs.declared.settings.Params.TheVariants as params
 use Rattle.params.specs.Ranges.{IsWithin}
@@ -13,9 +16,11 @@ use Rattle.geometry.specs.Needed.{first_of, swapped, flipped, between, needed, r
 use Rattle.geometry.proofs.TraceLemmas.{traces-within, traces-column, traces-row}
 use Rattle.geometry.proofs.PlaceLemmas.{KeepsPart, IsPart, is_part, keeps_part, pixel_before-inside}
 
-pub reach-zero : (p : Params) → (p ≡ params.Demosaic → ⊥) → reach p ≡ 0
-reach-zero params.Demosaic other = absurd (other refl)
-reach-zero _ other = refl
+pub reach-zero : (p : Params) → (p ≡ params.Demosaic → ⊥) → ((b : BoxBlur) → p ≡ params.BoxBlur b → ⊥) → ((s : Sharpen) → p ≡ params.Sharpen s → ⊥) → reach p ≡ 0
+reach-zero params.Demosaic plain unblurred unsharpened = absurd (plain refl)
+reach-zero (params.BoxBlur b) plain unblurred unsharpened = absurd (unblurred b refl)
+reach-zero (params.Sharpen s) plain unblurred unsharpened = absurd (unsharpened s refl)
+reach-zero _ plain unblurred unsharpened = refl
 
 -- ---- along one axis
 
@@ -56,18 +61,18 @@ pub record IsTurned (swap flip_x flip_y : Bool) (w h : ℕ) (out : Area) : Type 
   pub has : (x y : ℕ) → HasPixel out x y → HasPixel (flipped flip_x flip_y (w, h) (if swap then swapped out else out)) (mirrored flip_x w (if swap then y else x)) (mirrored flip_y h (if swap then x else y))
   pub inside : IsIn (flipped flip_x flip_y (w, h) (if swap then swapped out else out)) w h
 
-turned : (swap flip_x flip_y : Bool) (w h : ℕ) (out : Area) → IsArea out → out.x + out.w ≤ (if swap then h else w) → out.y + out.h ≤ (if swap then w else h) → IsTurned swap flip_x flip_y w h out
-turned true flip_x flip_y w h out area across down =
-    let columns = flipped_run flip_x w out.y out.h area.high down in
-    let rows = flipped_run flip_y h out.x out.w area.wide across in
+turned : (swap flip_x flip_y : Bool) (w h : ℕ) (out : Area) → 0 < out.w → 0 < out.h → out.x + out.w ≤ (if swap then h else w) → out.y + out.h ≤ (if swap then w else h) → IsTurned swap flip_x flip_y w h out
+turned true flip_x flip_y w h out wide high across down =
+    let columns = flipped_run flip_x w out.y out.h high down in
+    let rows = flipped_run flip_y h out.x out.w wide across in
     record {
       region = same_area _ _ (sym columns.first) (sym rows.first) (sym columns.count_is) (sym rows.count_is);
       has = λ x y pixel. record { left = columns.low y pixel.top pixel.bottom; right = columns.high y pixel.top pixel.bottom; top = rows.low x pixel.left pixel.right; bottom = rows.high x pixel.left pixel.right };
       inside = record { across = columns.within; down = rows.within };
     }
-turned false flip_x flip_y w h out area across down =
-    let columns = flipped_run flip_x w out.x out.w area.wide across in
-    let rows = flipped_run flip_y h out.y out.h area.high down in
+turned false flip_x flip_y w h out wide high across down =
+    let columns = flipped_run flip_x w out.x out.w wide across in
+    let rows = flipped_run flip_y h out.y out.h high down in
     record {
       region = same_area _ _ (sym columns.first) (sym rows.first) (sym columns.count_is) (sym rows.count_is);
       has = λ x y pixel. record { left = columns.low x pixel.left pixel.right; right = columns.high x pixel.left pixel.right; top = rows.low y pixel.top pixel.bottom; bottom = rows.high y pixel.top pixel.bottom };
@@ -82,28 +87,30 @@ pub record IsTracedArea (p : Params) (sides : ℕ × ℕ) (out : Area) : Type 0 
   pub has : (x y : ℕ) → HasPixel out x y → HasPixel (needed p sides out) (pixel_before p sides (x, y)).0 (pixel_before p sides (x, y)).1
   pub inside : IsIn (needed p sides out) sides.0 sides.1
 
-moved : (x y : ℕ) (out : Area) → IsArea out → record { x = out.x + x; y = out.y + y; w = out.w; h = out.h } ≡ between (x + out.x, y + out.y) (x + (out.x + out.w - 1), y + (out.y + out.h - 1))
-moved x y out area = same_area _ _ (omega arith) (omega arith) (omega arith) (omega arith)
+moved : (x y : ℕ) (out : Area) → 0 < out.w → 0 < out.h → record { x = out.x + x; y = out.y + y; w = out.w; h = out.h } ≡ between (x + out.x, y + out.y) (x + (out.x + out.w - 1), y + (out.y + out.h - 1))
+moved x y out wide high = same_area _ _ (omega arith) (omega arith) (omega arith) (omega arith)
 
-unmoved : (out : Area) → IsArea out → out ≡ between (out.x, out.y) (out.x + out.w - 1, out.y + out.h - 1)
-unmoved out area = same_area _ _ (omega arith) (omega arith) (omega arith) (omega arith)
+unmoved : (out : Area) → 0 < out.w → 0 < out.h → out ≡ between (out.x, out.y) (out.x + out.w - 1, out.y + out.h - 1)
+unmoved out wide high = same_area _ _ (omega arith) (omega arith) (omega arith) (omega arith)
 
-pub traced_area : (p : Params) (sides : ℕ × ℕ) (out : Area) → IsWithin p → Fits 0 0 sides.0 sides.1 → IsArea out → IsIn out (sides_after p sides).0 (sides_after p sides).1 → reach p ≡ 0 → IsTracedArea p sides out
-traced_area params.Demosaic sides out within fits area inside none = absurd (omega arith)
-traced_area (params.Orientation o) sides out within fits area inside none =
-    let t = turned o.swap o.flip_x o.flip_y sides.0 sides.1 out area inside.across inside.down in
+pub traced_area : (p : Params) (sides : ℕ × ℕ) (out : Area) → IsWithin p → Fits 0 0 sides.0 sides.1 → 0 < out.w → 0 < out.h → IsIn out (sides_after p sides).0 (sides_after p sides).1 → reach p ≡ 0 → IsTracedArea p sides out
+traced_area params.Demosaic sides out within fits wide high inside none = absurd (omega arith)
+traced_area (params.BoxBlur b) sides out within fits wide high inside none = absurd (omega (arith, ints, none, within.kept.0.0))
+traced_area (params.Sharpen s) sides out within fits wide high inside none = absurd (omega (arith, ints, none, within.kept.0.0))
+traced_area (params.Orientation o) sides out within fits wide high inside none =
+    let t = turned o.swap o.flip_x o.flip_y sides.0 sides.1 out wide high inside.across inside.down in
     record { region = t.region; has = t.has; inside = t.inside }
-traced_area (params.Crop c) sides out within fits area inside none =
+traced_area (params.Crop c) sides out within fits wide high inside none =
     let part = is_part c within in
     let columns = keeps_part c.left c.right sides.0 part.left part.right fits.wide in
     let rows = keeps_part c.top c.bottom sides.1 part.top part.bottom fits.high in
     record {
-      region = moved (kept_from c.left sides.0) (kept_from c.top sides.1) out area;
+      region = moved (kept_from c.left sides.0) (kept_from c.top sides.1) out wide high;
       has = λ x y pixel. record { left = omega arith; right = omega arith; top = omega arith; bottom = omega arith };
       inside = record { across = omega arith; down = omega arith };
     }
-traced_area _ sides out within fits area inside none = record {
-  region = unmoved out area;
+traced_area _ sides out within fits wide high inside none = record {
+  region = unmoved out wide high;
   has = λ x y pixel. pixel;
   inside = inside;
 }
@@ -117,7 +124,7 @@ traced-suffices p sides out none traced x y u v pixel looks =
 
 -- ---- by a module's trace
 
-pixel-of : (p : Params) (sides : ℕ × ℕ) (out : Area) (x y : ℕ) → IsIn out (sides_after p sides).0 (sides_after p sides).1 → HasPixel out x y → IsPixelOf (sides_after p sides) (x, y)
+pub pixel-of : (p : Params) (sides : ℕ × ℕ) (out : Area) (x y : ℕ) → IsIn out (sides_after p sides).0 (sides_after p sides).1 → HasPixel out x y → IsPixelOf (sides_after p sides) (x, y)
 pixel-of p sides out x y inside pixel = record { across = omega arith; down = omega arith }
 
 -- the trace leads the pixels of the region into pictures of the longest side

@@ -26,11 +26,16 @@ abbrev pub needed : Params → ℕ × ℕ → Area → Area
 needed params.Demosaic sides out = grown out 1 sides.0 sides.1
 needed (params.Orientation o) sides out = flipped o.flip_x o.flip_y sides (if o.swap then swapped out else out)
 needed (params.Crop c) sides out = shifted out (kept_area c sides).x (kept_area c sides).y
+needed (params.BoxBlur b) sides out = grown out b.radius sides.0 sides.1
+needed (params.Sharpen s) sides out = grown out s.radius sides.0 sides.1
 needed _ sides out = out
 
--- how many columns and rows round the pixel from which it comes a module looks at for a pixel
+-- how many columns and rows round the pixel from which it comes a module looks at for a pixel, at most. A radius is counted in
+-- pixels of the source, so that it is less at each level above
 abbrev pub reach : Params → ℕ
 reach params.Demosaic = 1
+reach (params.BoxBlur b) = b.radius
+reach (params.Sharpen s) = s.radius
 reach _ = 0
 
 -- the module may look at the input's pixel (u, v) for the output's pixel (x, y)

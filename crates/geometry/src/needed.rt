@@ -41,9 +41,9 @@ fn traced(params: &Params, w: u32, h: u32, out: Region) -> Region
 }
 
 /// The region of a module's input, of sides `w` and `h`, that a region of its output needs: all pixels
-/// that the module may look at for one of `out`. Demosaic needs one column and row more on each side, as
-/// far as they lie in the picture; orientation and crop need the pixels from which those of `out` come,
-/// and the others the same pixels.
+/// that the module may look at for one of `out`. Demosaic needs one column and row more on each side, box
+/// blur and sharpen `radius` more at every mipmap level, as far as they lie in the picture; orientation
+/// and crop need the pixels from which those of `out` come, and the others the same pixels.
 pub fn roi_back(params: &Params, w: u32, h: u32, out: Region) -> Region
     requires within { IsWithin params.now }
     requires sides { Fits 0 0 w h }
@@ -54,6 +54,8 @@ pub fn roi_back(params: &Params, w: u32, h: u32, out: Region) -> Region
 {
     match params {
         Params::Demosaic => out.grow(1, w, h),
+        Params::BoxBlur(blur) => out.grow(blur.radius, w, h),
+        Params::Sharpen(sharpen) => out.grow(sharpen.radius, w, h),
         _ => traced(params, w, h, out),
     }
 }

@@ -1,5 +1,5 @@
 -- quotients rounded up
-use Rattle.std.proofs.Common.{◌≡◌, ℕ, ◌+◌, ◌-◌, ◌*◌, ◌/◌, ◌%◌, ◌<◌, ◌≤◌, min, refl, sym, ap, ◌∙◌, ⊎_elim, arith}
+use Rattle.std.proofs.Common.{◌≡◌, ℕ, zero, suc, ◌+◌, ◌-◌, ◌*◌, ◌/◌, ◌%◌, ◌^◌, ◌<◌, ◌≤◌, min, refl, sym, ap, ◌∙◌, ⊎_elim, arith, lit<}
 use Rattle.std.proofs.lemmas.Grind.{div_ceil_times}
 use Rattle.std.proofs.lemmas.Nat.{div-mul-add}
 use Rattle.std.proofs.lemmas.Bool.{cases_lt}
@@ -44,3 +44,28 @@ some_is a n c some first is = ⊎_elim
 
 pub most_is : (a n c : ℕ) → 0 < n → c ≡ a / n + min 1 (a % n) → c ≤ a
 most_is a n c some is = least_is a n c a some is (let up : 1 ≤ n = omega arith in omega (arith, mul-le-mul_left a up))
+
+-- what the code's shift gives
+pub shifted : (level : ℕ) → level ≤ 8 → (1 * 2 ^ level) % 4294967296 ≡ 2 ^ level
+shifted zero h = refl
+shifted (suc zero) h = refl
+shifted (suc (suc zero)) h = refl
+shifted (suc (suc (suc zero))) h = refl
+shifted (suc (suc (suc (suc zero)))) h = refl
+shifted (suc (suc (suc (suc (suc zero))))) h = refl
+shifted (suc (suc (suc (suc (suc (suc zero)))))) h = refl
+shifted (suc (suc (suc (suc (suc (suc (suc zero))))))) h = refl
+shifted (suc (suc (suc (suc (suc (suc (suc (suc zero)))))))) h = refl
+shifted (suc (suc (suc (suc (suc (suc (suc (suc (suc n))))))))) h = absurd (omega arith)
+
+pub two_some : (level : ℕ) → level ≤ 8 → 0 < 2 ^ level
+two_some zero h = lit< tt
+two_some (suc zero) h = lit< tt
+two_some (suc (suc zero)) h = lit< tt
+two_some (suc (suc (suc zero))) h = lit< tt
+two_some (suc (suc (suc (suc zero)))) h = lit< tt
+two_some (suc (suc (suc (suc (suc zero))))) h = lit< tt
+two_some (suc (suc (suc (suc (suc (suc zero)))))) h = lit< tt
+two_some (suc (suc (suc (suc (suc (suc (suc zero))))))) h = lit< tt
+two_some (suc (suc (suc (suc (suc (suc (suc (suc zero)))))))) h = lit< tt
+two_some (suc (suc (suc (suc (suc (suc (suc (suc (suc n))))))))) h = absurd (omega arith)

@@ -6,10 +6,13 @@
 #![tactic(auto)]
 
 mod blurring;
+mod boxes;
 mod columns;
 mod filling;
 mod lines;
 mod radius;
 mod sharpening;
 
+pub use blurring::{box_blur, box_blur_in_turn};
 pub use radius::radius_at;
+pub use sharpening::{sharpen, sharpen_in_turn};

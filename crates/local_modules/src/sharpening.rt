@@ -1,11 +1,16 @@
 ghost use Rattle.std.specs.Prelude.{◌≡◌, ℕ, ◌*◌, ◌<◌, ◌≤◌, IfOk, length, slice_index};
+ghost use Rattle.params.specs.declared.settings.Params.TheVariants.{Sharpen as sharpen_params};
+ghost use Rattle.params.specs.Ranges.{IsWithin};
 ghost use Rattle.px.specs.declared.kind.PlaneKind.TheVariants.{Rgb};
 ghost use Rattle.px.specs.Area.{Covers, IsIn, grown};
 ghost use Rattle.px.specs.Cut.{IsCutOf};
 ghost use Rattle.px.specs.Picture.{Picture};
+ghost use Rattle.local_modules.specs.Radius.{radius_of};
 ghost use Rattle.local_modules.specs.Sharpening.{sharpened, sharpened_picture};
 
-use crate::blurring::{blur, blur_in_turn};
+use crate::boxes::{blur, blur_in_turn};
+use crate::radius::radius_at;
+use params::Sharpen;
 use px::{Plane, PlaneKind, Region, RowPainter, clamp_small, paint, paint_in_turn, scale_floor};
 use std::alloc::{AllocError, Global};
 use std::thread::Threads;
@@ -68,7 +73,7 @@ impl<'a> RowPainter for SharpenRows<'a> {
 }
 
 // A region of the sharpened picture, side by side.
-pub(crate) fn sharpen_by<R: Threads + Sync>(
+fn sharpen_by<R: Threads + Sync>(
     rt: &R,
     alloc: Global,
     r: u32,
@@ -95,7 +100,7 @@ pub(crate) fn sharpen_by<R: Threads + Sync>(
 }
 
 // The same region, its rows one after another.
-pub(crate) fn sharpen_by_in_turn(
+fn sharpen_by_in_turn(
     alloc: Global,
     r: u32,
     amount: u32,
@@ -118,4 +123,47 @@ pub(crate) fn sharpen_by_in_turn(
         blurred: &blurred,
     };
     paint_in_turn(alloc, PlaneKind::Rgb, w, h, region, &painter)
+}
+
+/// Sharpen of a picture of a level, 0 to 8: `clamp(v + floor((v - b) * amount / 4096))` in each channel,
+/// `b` being the box blur's value of the same radius, over one region, side by side. The input covers the
+/// region grown by the radius at that level within the picture.
+pub fn sharpen<R: Threads + Sync>(
+    rt: &R,
+    alloc: Global,
+    params: &Sharpen,
+    level: u8,
+    input: &Plane,
+    region: Region,
+) -> Result<Plane, AllocError>
+    requires within { IsWithin (sharpen_params params.now) }
+    requires level { level ≤ 8 }
+    requires rgb { input.now.kind ≡ Rgb }
+    requires inside { IsIn region input.now.w input.now.h }
+    requires covers { Covers input.now.area (grown region (radius_of params.now.radius level) input.now.w input.now.h) }
+    ensures area { IfOk result (λ p. p.area ≡ region) }
+    ensures cut { IfOk result (λ p. (q : Picture) → IsCutOf q input.now → IsCutOf (sharpened_picture (radius_of params.now.radius level) params.now.amount q) p) }
+{
+    let r = radius_at(params.radius, level);
+    sharpen_by(rt, alloc, r, params.amount, input, region)
+}
+
+/// The same region, its rows one after another, as a band of a run makes it.
+pub fn sharpen_in_turn(
+    alloc: Global,
+    params: &Sharpen,
+    level: u8,
+    input: &Plane,
+    region: Region,
+) -> Result<Plane, AllocError>
+    requires within { IsWithin (sharpen_params params.now) }
+    requires level { level ≤ 8 }
+    requires rgb { input.now.kind ≡ Rgb }
+    requires inside { IsIn region input.now.w input.now.h }
+    requires covers { Covers input.now.area (grown region (radius_of params.now.radius level) input.now.w input.now.h) }
+    ensures area { IfOk result (λ p. p.area ≡ region) }
+    ensures cut { IfOk result (λ p. (q : Picture) → IsCutOf q input.now → IsCutOf (sharpened_picture (radius_of params.now.radius level) params.now.amount q) p) }
+{
+    let r = radius_at(params.radius, level);
+    sharpen_by_in_turn(alloc, r, params.amount, input, region)
 }

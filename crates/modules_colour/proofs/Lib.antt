@@ -2,4 +2,5 @@ pub mod CurveLemmas
 pub mod LineLemmas
 pub mod MixLemmas
 pub mod NodeLemmas
+pub mod WithinLemmas
 pub mod OldLemmas

@@ -1,5 +1,5 @@
 -- products of pixels and rows of a matrix
-use Rattle.std.proofs.Common.{◌≡◌, ℕ, zero, suc, ◌+◌, ◌*◌, ◌/◌, ◌%◌, ◌<◌, ◌≤◌, List, [], ◌∷◌, slice_index, min, refl, sym, ap, ◌∙◌, arith}
+use Rattle.std.proofs.Common.{◌≡◌, ℕ, zero, suc, ◌+◌, ◌*◌, ◌/◌, ◌%◌, ◌<◌, ◌≤◌, List, [], ◌∷◌, slice_index, min, refl, sym, ap, ◌∙◌, subst, arith}
 use Rattle.std.specs.Prelude.{ℤ, pos, negsuc, ◌+ℤ◌, ◌*ℤ◌, ◌≤ℤ◌, neg_ℤ, unsigned_abs}
 use Rattle.std.proofs.lemmas.Int.{ints}
 use Rattle.std.proofs.lemmas.List.{get_or_past}
@@ -19,6 +19,9 @@ sum_by_parts a b c r g d = omega (arith, ints, by_parts a r, by_parts b g, by_pa
 pub clamp_top : (z : ℤ) → clamp z ≤ 1048575
 clamp_top (pos a) = omega arith
 clamp_top (negsuc a) = omega arith
+
+pub top_of : (n : ℕ) (z : ℤ) → n ≡ clamp z → n ≤ 1048575
+top_of n z e = rw e (clamp_top z)
 
 pub three_tops : (a b c : ℕ) → a ≤ 1048575 → b ≤ 1048575 → c ≤ 1048575 → (i : ℕ) → slice_index (a ∷ b ∷ c ∷ []) i ≤ 1048575
 three_tops a b c ha hb hc zero = ha
@@ -42,7 +45,8 @@ entry_small m within (suc (suc (suc (suc (suc zero))))) = small_of _ within.kept
 entry_small m within (suc (suc (suc (suc (suc (suc zero)))))) = small_of _ within.kept.1.1.1.1.1.1.0
 entry_small m within (suc (suc (suc (suc (suc (suc (suc zero))))))) = small_of _ within.kept.1.1.1.1.1.1.1.0
 entry_small m within (suc (suc (suc (suc (suc (suc (suc (suc zero)))))))) = small_of _ within.kept.1.1.1.1.1.1.1.1.0
-entry_small m within (suc (suc (suc (suc (suc (suc (suc (suc (suc i))))))))) = let e = get_or_past m.rows (9 + i) (pos 0) (omega (arith, within.sized)) in rw e (omega arith)
+entry_small m within (suc (suc (suc (suc (suc (suc (suc (suc (suc i))))))))) =
+    let e : factor m (suc (suc (suc (suc (suc (suc (suc (suc (suc i))))))))) ≡ pos 0 = get_or_past m.rows (suc (suc (suc (suc (suc (suc (suc (suc (suc i))))))))) (pos 0) (omega (arith, within.sized)) in subst (λ (z : ℤ). unsigned_abs z ≤ 32768) (sym e) (omega arith)
 
 -- settings within their ranges have a matrix within its ranges
 pub matrix_of : (m : ChannelMixer) → IsMixerWithin m → IsMatrix m

@@ -1,5 +1,6 @@
 -- tone curves
 use Rattle.std.specs.Prelude.{◌≡◌, ℕ, zero, suc, ◌+◌, ◌-◌, ◌*◌, ◌≤◌, ℤ, pos, ◌+ℤ◌, ◌-ℤ◌, ◌*ℤ◌, List, [], ◌∷◌, length, slice_index, nat_lt, if◌then◌else◌}
+use Rattle.params.specs.declared.settings.ToneCurve.{ToneCurve}
 use Rattle.px.specs.Number.{floor_div, clamp}
 use Rattle.px.specs.Picture.{Picture}
 
@@ -17,20 +18,14 @@ abbrev pub curved : List (ℕ × ℕ) → ℕ → ℕ
 curved [] v = v
 curved (a ∷ rest) v = if nat_lt v a.0 then a.1 else from_node a rest v
 
--- the nodes of each channel
-pub record Curves : Type 0 where
-  pub red : List (ℕ × ℕ)
-  pub green : List (ℕ × ℕ)
-  pub blue : List (ℕ × ℕ)
-
--- those of one channel
-abbrev pub nodes_of : Curves → ℕ → List (ℕ × ℕ)
+-- the nodes of one channel: red, green, blue
+abbrev pub nodes_of : ToneCurve → ℕ → List (ℕ × ℕ)
 nodes_of t zero = t.red
 nodes_of t (suc zero) = t.green
 nodes_of t (suc (suc c)) = t.blue
 
 -- each value of the picture through the curve of its channel
-abbrev pub curved_picture : Curves → Picture → Picture
+abbrev pub curved_picture : ToneCurve → Picture → Picture
 curved_picture t q = record { kind = q.kind; w = q.w; h = q.h; at = λ x y c. curved (nodes_of t c) (q.at x y c) }
 
 -- ---- tables
@@ -51,7 +46,7 @@ pub record Tables : Type 0 where
   pub blue : List ℕ
 
 -- a table for the curve of each channel
-pub record IsTableOf (t : Curves) (tables : Tables) : Type 0 where
+pub record IsTableOf (t : ToneCurve) (tables : Tables) : Type 0 where
   pub red : AreEntriesOf t.red tables.red
   pub green : AreEntriesOf t.green tables.green
   pub blue : AreEntriesOf t.blue tables.blue

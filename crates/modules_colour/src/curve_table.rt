@@ -1,9 +1,12 @@
 ghost use Rattle.std.specs.Prelude.{◌≡◌, ◌≤◌, ℕ, IsTrue, IfOk, slice_index, length};
 ghost use Rattle.std.specs.Arc.{arc_value};
 ghost use Rattle.params.specs.Curve.{IsCurve};
-ghost use Rattle.modules_colour.specs.Curving.{Curves, IsTable, AreEntriesOf, IsTableOf};
+ghost use Rattle.params.specs.Ranges.{IsWithin};
+ghost use Rattle.params.specs.declared.settings.Params.TheVariants.{ToneCurve as curve_params};
+ghost use Rattle.modules_colour.specs.Curving.{IsTable, AreEntriesOf, IsTableOf};
 
 use crate::channel_table::ChannelTable;
+use params::ToneCurve;
 use std::alloc::{AllocError, Global};
 use std::marker::Model;
 use std::sync::Arc;
@@ -47,12 +50,23 @@ fn shared_or_made(
     if are_same(nodes, known_nodes) {
         return Arc::try_clone(known);
     }
-    Arc::new(alloc, ChannelTable::make(alloc, nodes)?)
+    Ok(Arc::new(alloc, ChannelTable::make(alloc, nodes)?)?)
 }
 
 impl CurveTable {
-    /// The tables of the curves through these nodes.
-    pub fn of_nodes(
+    /// The tables of a tone curve.
+    pub fn make(alloc: Global, params: &ToneCurve) -> Result<CurveTable, AllocError>
+        requires { IsWithin (curve_params params.now) }
+        ensures { IfOk result (IsTableOf params.now) }
+    {
+        let red = params.red.as_slice();
+        let green = params.green.as_slice();
+        let blue = params.blue.as_slice();
+        CurveTable::of_nodes(alloc, red, green, blue)
+    }
+
+    // The tables of the curves through these nodes.
+    fn of_nodes(
         alloc: Global,
         red_nodes: &[(u32, u32)],
         green_nodes: &[(u32, u32)],

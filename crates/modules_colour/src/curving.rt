@@ -1,10 +1,11 @@
 ghost use Rattle.std.specs.Prelude.{◌≡◌, ◌≤◌, ◌*◌, ℕ, List, IfOk, slice_index, length};
+ghost use Rattle.params.specs.declared.settings.ToneCurve.{ToneCurve};
 ghost use Rattle.px.specs.declared.kind.PlaneKind.TheVariants.{Rgb};
 ghost use Rattle.px.specs.Area.{Covers};
 ghost use Rattle.px.specs.Cut.{IsCutOf};
 ghost use Rattle.px.specs.Picture.{Picture};
 ghost use Rattle.px.specs.Pixelwise.{IsMadeRow};
-ghost use Rattle.modules_colour.specs.Curving.{Curves, IsTable, IsTableOf, curved_picture, looked_up};
+ghost use Rattle.modules_colour.specs.Curving.{IsTable, IsTableOf, curved_picture, looked_up};
 
 use crate::curve_table::CurveTable;
 use px::{Plane, PlaneKind, Region, RowPainter, paint, paint_in_turn};
@@ -33,38 +34,33 @@ fn look_up_row(red: &[u32], green: &[u32], blue: &[u32], n: u32, from: &[u32], r
 // Paints rows of pixels that go through a curve.
 #[derive(Drop)]
 struct CurveRows<'a> {
-    table: &'a CurveTable,
+    red: &'a [u32],
+    green: &'a [u32],
+    blue: &'a [u32],
     input: &'a Plane,
 }
 
 impl<'a> RowPainter for CurveRows<'a> {
     ghost use Rattle.std.specs.Prelude.{◌≡◌};
+    ghost use Rattle.params.specs.declared.settings.ToneCurve.{ToneCurve};
     ghost use Rattle.px.specs.declared.kind.PlaneKind.TheVariants.{Rgb};
     ghost use Rattle.px.specs.Area.{HasPixel};
     ghost use Rattle.px.specs.Cut.{value_at};
     ghost use Rattle.px.specs.Pixelwise.{made_of};
-    ghost use Rattle.modules_colour.specs.Curving.{looked_up};
+    ghost use Rattle.modules_colour.specs.Curving.{IsTable, looked_up};
 
     ghost size = { λ _. 3 };
 
-    ghost asks = { λ s x y. HasPixel s.input.now.area x y × (s.input.now.kind ≡ Rgb) };
+    ghost asks = { λ s x y. HasPixel s.input.now.area x y × (s.input.now.kind ≡ Rgb) × IsTable s.red.now × IsTable s.green.now × IsTable s.blue.now };
 
-    ghost gives = { λ s x y r. r ≡ made_of (looked_up s.table.now) (value_at s.input.now x y) };
+    ghost gives = { λ s x y r. r ≡ made_of (looked_up (record { red = s.red.now; green = s.green.now; blue = s.blue.now })) (value_at s.input.now x y) };
 
     fn fill_row(&self, x: u32, y: u32, n: u32, row: &mut [u32]) {
         if n == 0 {
             return;
         }
         let input = self.input;
-        let table = self.table;
-        look_up_row(
-            table.red(),
-            table.green(),
-            table.blue(),
-            n,
-            input.row(x, y, n),
-            row,
-        );
+        look_up_row(self.red, self.green, self.blue, n, input.row(x, y, n), row);
     }
 }
 
@@ -81,18 +77,16 @@ pub fn curve<R: Threads + Sync>(
     requires rgb { input.now.kind ≡ Rgb }
     requires covers { Covers input.now.area region }
     ensures area { IfOk result (λ p. p.area ≡ region) }
-    ensures cut { IfOk result (λ p. (params : Curves) (q : Picture) → IsTableOf params table.now → IsCutOf q input.now → IsCutOf (curved_picture params q) p) }
+    ensures cut { IfOk result (λ p. (params : ToneCurve) (q : Picture) → IsTableOf params table.now → IsCutOf q input.now → IsCutOf (curved_picture params q) p) }
 {
     let (w, h) = input.sides();
-    paint(
-        rt,
-        alloc,
-        PlaneKind::Rgb,
-        w,
-        h,
-        region,
-        &CurveRows { table, input },
-    )
+    let painter = CurveRows {
+        red: table.red(),
+        green: table.green(),
+        blue: table.blue(),
+        input,
+    };
+    paint(rt, alloc, PlaneKind::Rgb, w, h, region, &painter)
 }
 
 /// The same region, its rows one after another, as a band of a run makes it.
@@ -105,15 +99,14 @@ pub fn curve_in_turn(
     requires rgb { input.now.kind ≡ Rgb }
     requires covers { Covers input.now.area region }
     ensures area { IfOk result (λ p. p.area ≡ region) }
-    ensures cut { IfOk result (λ p. (params : Curves) (q : Picture) → IsTableOf params table.now → IsCutOf q input.now → IsCutOf (curved_picture params q) p) }
+    ensures cut { IfOk result (λ p. (params : ToneCurve) (q : Picture) → IsTableOf params table.now → IsCutOf q input.now → IsCutOf (curved_picture params q) p) }
 {
     let (w, h) = input.sides();
-    paint_in_turn(
-        alloc,
-        PlaneKind::Rgb,
-        w,
-        h,
-        region,
-        &CurveRows { table, input },
-    )
+    let painter = CurveRows {
+        red: table.red(),
+        green: table.green(),
+        blue: table.blue(),
+        input,
+    };
+    paint_in_turn(alloc, PlaneKind::Rgb, w, h, region, &painter)
 }

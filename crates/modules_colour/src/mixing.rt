@@ -37,7 +37,10 @@ fn weigh_pixel(by_red: i32, by_green: i32, by_blue: i32, r: u32, g: u32, b: u32)
     ensures sum { result ≡ by_red *ℤ pos r +ℤ by_green *ℤ pos g +ℤ by_blue *ℤ pos b }
     ensures small { unsigned_abs result ≤ 402653184 }
 {
-    weigh(by_red, r) + weigh(by_green, g) + weigh(by_blue, b)
+    let red = weigh(by_red, r);
+    let green = weigh(by_green, g);
+    let blue = weigh(by_blue, b);
+    red + green + blue
 }
 
 // One channel that comes out: its row of the matrix times a pixel, by parts that fit 32 bits.

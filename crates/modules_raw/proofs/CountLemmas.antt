@@ -1,5 +1,5 @@
 -- each colour of a mosaic lies in any two of its columns and rows
-use Rattle.std.proofs.Common.{◌≡◌, ℕ, zero, suc, ◌+◌, ◌-◌, ◌*◌, ◌%◌, ◌<◌, ◌≤◌, ◌==◌, if◌then◌else◌, lit<, lit≤, refl, sym, ap, ◌∙◌, subst, arith}
+use Rattle.std.proofs.Common.{◌≡◌, ℕ, zero, suc, ◌+◌, ◌-◌, ◌%◌, ◌<◌, ◌≤◌, ◌==◌, if◌then◌else◌, lit<, lit≤, ap, subst, arith}
 use Rattle.px.specs.declared.kind.Cfa.{Cfa}
 use Rattle.px.specs.declared.kind.Colour.{Colour}
 use Rattle.px.specs.declared.kind.Colour.TheVariants.{R, G, B}
@@ -8,7 +8,7 @@ use Rattle.px.specs.declared.kind.PlaneKind.TheVariants.{Mosaic, Rgb}
 use Rattle.px.specs.Area.{Area}
 use Rattle.px.specs.Kind.{least_side}
 use Rattle.px.specs.Means.{only, count_in}
-use Rattle.px.specs.Mosaic.{channel, channel_at, channel_by}
+use Rattle.px.specs.Mosaic.{channel, channel_by}
 use Rattle.px.specs.Sums.{total}
 use Rattle.px.proofs.RowLemmas.{three}
 use Rattle.modules_raw.proofs.NineLemmas.{shapes}

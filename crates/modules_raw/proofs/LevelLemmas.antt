@@ -1,8 +1,7 @@
 -- pixels of levels
-use Rattle.std.proofs.Common.{◌≡◌, ℕ, ◌+◌, ◌-◌, ◌*◌, ◌<◌, ◌≤◌, ◌^◌, min, List, [], ◌∷◌, refl, sym, ap, ◌∙◌, arith}
-use Rattle.px.specs.Area.{Area, HasPixel}
+use Rattle.std.proofs.Common.{◌≡◌, ℕ, ◌<◌, ◌^◌, List, [], ◌∷◌, refl, ap, ◌∙◌, arith}
+use Rattle.px.specs.Area.{HasPixel}
 use Rattle.px.specs.Cut.{Cut, IsCutOf, IsWhole, value_at}
-use Rattle.px.specs.Kind.{channels}
 use Rattle.px.specs.Means.{mean_in}
 use Rattle.px.specs.Picture.{Picture, rgb_of}
 use Rattle.px.proofs.SumLemmas.{mean_same}
@@ -21,7 +20,7 @@ level_mean : (p : Cut) (q : Picture) (size l x y c : ℕ) → IsCutOf q p → Is
     → mean_in p.kind (value_at p) c (block p.w p.h size x y) ≡ mean_in q.kind q.at c (block q.w q.h (2 ^ l) x y)
 level_mean p q size l x y c part whole size_is few =
     mean_same p.kind (value_at p) q.at c (block p.w p.h size x y) few
-      (λ u v d here below. part.same u v d (block_inside p size x y u v whole here) (rw (← part.kind) below))
+    (λ u v d here below. part.same u v d (block_inside p size x y u v whole here) (rw (← part.kind) below))
     ∙ (ap (λ k. mean_in k q.at c (block p.w p.h size x y)) part.kind
     ∙ (ap (λ n. mean_in q.kind q.at c (block n p.h size x y)) part.wide
     ∙ (ap (λ n. mean_in q.kind q.at c (block q.w n size x y)) part.high

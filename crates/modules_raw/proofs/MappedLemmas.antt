@@ -1,9 +1,8 @@
 -- rows whose values are changed by their colours alone
-use Rattle.std.proofs.Common.{◌≡◌, ℕ, ◌+◌, ◌-◌, ◌*◌, ◌%◌, ◌<◌, ◌≤◌, List, length, slice_index, refl, sym, ap, ◌∙◌, ⊎_elim, arith}
+use Rattle.std.proofs.Common.{◌≡◌, ℕ, ◌+◌, ◌*◌, ◌%◌, ◌<◌, ◌≤◌, List, length, slice_index, refl, sym, ap, ◌∙◌, ⊎_elim, arith}
 use Rattle.std.proofs.lemmas.Bool.{cases_lt}
 use Rattle.std.proofs.lemmas.List.{get_or_past}
 use Rattle.px.specs.declared.kind.Cfa.{Cfa}
-use Rattle.px.specs.declared.kind.PlaneKind.{PlaneKind}
 use Rattle.px.specs.declared.kind.PlaneKind.TheVariants.{Mosaic, Rgb}
 use Rattle.px.specs.Area.{HasPixel}
 use Rattle.px.specs.Cut.{Cut, IsCutOf, value_at}
@@ -76,4 +75,4 @@ pub mapped_of_cut : (p : Cut) (q : Picture) (makes : ℕ → ℕ → ℕ) (x y :
 mapped_of_cut p q makes x y r part inside is =
     is.pixel ∙ (ap (λ k. pixel_by k (λ c. makes (channel_in k x y c) (value_at p x y c))) part.kind
     ∙ pixel_by_same q.kind (λ c. makes (channel_in q.kind x y c) (value_at p x y c)) (λ c. makes (channel_in q.kind x y c) (q.at x y c))
-      (λ c few. ap (makes (channel_in q.kind x y c)) (part.same x y c inside few)))
+    (λ c few. ap (makes (channel_in q.kind x y c)) (part.same x y c inside few)))

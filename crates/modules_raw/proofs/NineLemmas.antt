@@ -1,10 +1,9 @@
 -- the nine pixels of a window
-use Rattle.std.proofs.Common.{◌≡◌, ℕ, zero, suc, ◌+◌, ◌-◌, ◌*◌, ◌/◌, ◌%◌, ◌<◌, ◌≤◌, ◌==◌, min, Bool, true, false, List, [], ◌∷◌, if◌then◌else◌, refl, sym, ap, ◌∙◌, subst, ⊎_elim, arith}
-use Rattle.std.proofs.lemmas.Bool.{cases_lt, ne_eqb}
+use Rattle.std.proofs.Common.{◌≡◌, ℕ, zero, suc, ◌+◌, ◌-◌, ◌/◌, ◌%◌, ◌<◌, ◌==◌, min, Bool, true, false, [], ◌∷◌, if◌then◌else◌, refl, sym, ap, ◌∙◌, arith}
+use Rattle.std.proofs.lemmas.Bool.{ne_eqb}
 use Rattle.px.specs.declared.kind.Cfa.{Cfa}
 use Rattle.px.specs.declared.kind.Cfa.TheVariants.{Rggb, Bggr, Grbg, Gbrg}
-use Rattle.px.specs.Area.{Area}
-use Rattle.px.specs.Sums.{total, area_total}
+use Rattle.px.specs.Sums.{area_total}
 use Rattle.px.specs.declared.kind.PlaneKind.TheVariants.{Mosaic}
 use Rattle.px.specs.Means.{only, sum_in, count_in}
 use Rattle.px.specs.Mosaic.{channel_by, channel_at}
@@ -48,8 +47,8 @@ pub sum_of_nine : (cfa : Cfa) (c : ℕ) (v : ℕ → ℕ → ℕ) (X Y own side 
     → channel_at cfa (X + 1) Y ≡ under → channel_at cfa (X + 1) (Y + 2) ≡ under
     → channel_at cfa X Y ≡ corner → channel_at cfa (X + 2) Y ≡ corner → channel_at cfa X (Y + 2) ≡ corner → channel_at cfa (X + 2) (Y + 2) ≡ corner
     → area_total (only cfa c v) (record { x = X; y = Y; w = 3; h = 3 })
-      ≡ pick (own == c) (v (X + 1) (Y + 1)) + pick (side == c) (v X (Y + 1) + v (X + 2) (Y + 1)) + pick (under == c) (v (X + 1) Y + v (X + 1) (Y + 2))
-        + pick (corner == c) (v X Y + v (X + 2) Y + (v X (Y + 2) + v (X + 2) (Y + 2)))
+    ≡ pick (own == c) (v (X + 1) (Y + 1)) + pick (side == c) (v X (Y + 1) + v (X + 2) (Y + 1)) + pick (under == c) (v (X + 1) Y + v (X + 1) (Y + 2))
+    + pick (corner == c) (v X Y + v (X + 2) Y + (v X (Y + 2) + v (X + 2) (Y + 2)))
 sum_of_nine cfa c v X Y own side under corner o s1 s2 u1 u2 c1 c2 c3 c4 =
     let x0 : X + 0 ≡ X = omega arith in
     let y0 : Y + 0 ≡ Y = omega arith in
@@ -85,8 +84,8 @@ by_kind own side under corner v beside along corners c = pick (own == c) v + pic
 
 at_shape : (v beside along corners : ℕ) (cfa : Cfa) (p q : ℕ) → p < 2 → q < 2 →
     IsAt (channel_by cfa p q) (channel_by cfa (1 - p) q) v beside along corners
-      (by_kind (channel_by cfa p q) (channel_by cfa (1 - p) q) (channel_by cfa p (1 - q)) (channel_by cfa (1 - p) (1 - q)) v beside along corners)
-      (by_kind (channel_by cfa p q) (channel_by cfa (1 - p) q) (channel_by cfa p (1 - q)) (channel_by cfa (1 - p) (1 - q)) 1 2 2 4)
+    (by_kind (channel_by cfa p q) (channel_by cfa (1 - p) q) (channel_by cfa p (1 - q)) (channel_by cfa (1 - p) (1 - q)) v beside along corners)
+    (by_kind (channel_by cfa p q) (channel_by cfa (1 - p) q) (channel_by cfa p (1 - q)) (channel_by cfa (1 - p) (1 - q)) 1 2 2 4)
 at_shape v beside along corners = shapes
     (λ own side under corner. IsAt own side v beside along corners (by_kind own side under corner v beside along corners) (by_kind own side under corner 1 2 2 4))
     (record { same = let e0 : 0 + beside + 0 + 0 ≡ beside = omega arith in let e2 : 0 + 0 + along + 0 ≡ along = omega arith in rw (e0, e2) refl })
@@ -100,9 +99,9 @@ of_three a b c a' b' c' e f g = rw (e, f, g) refl
 -- a pixel with all its neighbours is as defined
 pub inner_is : (cfa : Cfa) (w h : ℕ) (at : ℕ → ℕ → ℕ → ℕ) (X Y : ℕ) → X + 2 < w → Y + 2 < h
     → inner (channel_at cfa (X + 1) (Y + 1)) (channel_at cfa X (Y + 1)) (at (X + 1) (Y + 1) 0)
-        (at X (Y + 1) 0 + at (X + 2) (Y + 1) 0) (at (X + 1) Y 0 + at (X + 1) (Y + 2) 0)
-        (at X Y 0 + at (X + 2) Y 0 + (at X (Y + 2) 0 + at (X + 2) (Y + 2) 0))
-      ≡ demosaiced cfa w h at (X + 1) (Y + 1) 0 ∷ demosaiced cfa w h at (X + 1) (Y + 1) 1 ∷ demosaiced cfa w h at (X + 1) (Y + 1) 2 ∷ []
+    (at X (Y + 1) 0 + at (X + 2) (Y + 1) 0) (at (X + 1) Y 0 + at (X + 1) (Y + 2) 0)
+    (at X Y 0 + at (X + 2) Y 0 + (at X (Y + 2) 0 + at (X + 2) (Y + 2) 0))
+    ≡ demosaiced cfa w h at (X + 1) (Y + 1) 0 ∷ demosaiced cfa w h at (X + 1) (Y + 1) 1 ∷ demosaiced cfa w h at (X + 1) (Y + 1) 2 ∷ []
 inner_is cfa w h at X Y right below =
     let p = (X + 1) % 2 in
     let q = (Y + 1) % 2 in
@@ -111,13 +110,13 @@ inner_is cfa w h at X Y right below =
     let x2 : (X + 2) % 2 ≡ 1 - p = two_on X ∙ x in
     let y2 : (Y + 2) % 2 ≡ 1 - q = two_on Y ∙ y in
     let sums : (c : ℕ) (v : ℕ → ℕ → ℕ) → area_total (only cfa c v) (record { x = X; y = Y; w = 3; h = 3 }) ≡ by_kind (channel_by cfa p q) (channel_by cfa (1 - p) q) (channel_by cfa p (1 - q)) (channel_by cfa (1 - p) (1 - q))
-          (v (X + 1) (Y + 1)) (v X (Y + 1) + v (X + 2) (Y + 1)) (v (X + 1) Y + v (X + 1) (Y + 2)) (v X Y + v (X + 2) Y + (v X (Y + 2) + v (X + 2) (Y + 2))) c =
-        λ c v. sum_of_nine cfa c v X Y _ _ _ _ refl
-          (ap (λ n. channel_by cfa n q) x) (ap (λ n. channel_by cfa n q) x2) (ap (λ n. channel_by cfa p n) y) (ap (λ n. channel_by cfa p n) y2)
-          (ap (λ n. channel_by cfa n (Y % 2)) x ∙ ap (λ n. channel_by cfa (1 - p) n) y)
-          (ap (λ n. channel_by cfa n (Y % 2)) x2 ∙ ap (λ n. channel_by cfa (1 - p) n) y)
-          (ap (λ n. channel_by cfa n ((Y + 2) % 2)) x ∙ ap (λ n. channel_by cfa (1 - p) n) y2)
-          (ap (λ n. channel_by cfa n ((Y + 2) % 2)) x2 ∙ ap (λ n. channel_by cfa (1 - p) n) y2) in
+    (v (X + 1) (Y + 1)) (v X (Y + 1) + v (X + 2) (Y + 1)) (v (X + 1) Y + v (X + 1) (Y + 2)) (v X Y + v (X + 2) Y + (v X (Y + 2) + v (X + 2) (Y + 2))) c =
+    λ c v. sum_of_nine cfa c v X Y _ _ _ _ refl
+    (ap (λ n. channel_by cfa n q) x) (ap (λ n. channel_by cfa n q) x2) (ap (λ n. channel_by cfa p n) y) (ap (λ n. channel_by cfa p n) y2)
+    (ap (λ n. channel_by cfa n (Y % 2)) x ∙ ap (λ n. channel_by cfa (1 - p) n) y)
+    (ap (λ n. channel_by cfa n (Y % 2)) x2 ∙ ap (λ n. channel_by cfa (1 - p) n) y)
+    (ap (λ n. channel_by cfa n ((Y + 2) % 2)) x ∙ ap (λ n. channel_by cfa (1 - p) n) y2)
+    (ap (λ n. channel_by cfa n ((Y + 2) % 2)) x2 ∙ ap (λ n. channel_by cfa (1 - p) n) y2) in
     let own = channel_by cfa p q in
     let side = channel_by cfa (1 - p) q in
     let under = channel_by cfa p (1 - q) in
@@ -127,12 +126,12 @@ inner_is cfa w h at X Y right below =
     let along = at (X + 1) Y 0 + at (X + 1) (Y + 2) 0 in
     let corners = at X Y 0 + at (X + 2) Y 0 + (at X (Y + 2) 0 + at (X + 2) (Y + 2) 0) in
     let is : (c : ℕ) → demosaiced cfa w h at (X + 1) (Y + 1) c
-          ≡ (if own == c then v else by_kind own side under corner v beside along corners c / by_kind own side under corner 1 2 2 4 c) =
-        λ c. ap (λ a. if own == c then v else sum_in (Mosaic cfa) at c a / count_in (Mosaic cfa) c a) (window_inside w h X Y right below)
-          ∙ (ap (λ n. if own == c then v else n / count_in (Mosaic cfa) c (record { x = X; y = Y; w = 3; h = 3 })) (sums c (λ x y. at x y 0))
-          ∙ ap (λ n. if own == c then v else by_kind own side under corner v beside along corners c / n) (sums c (λ x y. 1))) in
+    ≡ (if own == c then v else by_kind own side under corner v beside along corners c / by_kind own side under corner 1 2 2 4 c) =
+    λ c. ap (λ a. if own == c then v else sum_in (Mosaic cfa) at c a / count_in (Mosaic cfa) c a) (window_inside w h X Y right below)
+    ∙ (ap (λ n. if own == c then v else n / count_in (Mosaic cfa) c (record { x = X; y = Y; w = 3; h = 3 })) (sums c (λ x y. at x y 0))
+    ∙ ap (λ n. if own == c then v else by_kind own side under corner v beside along corners c / n) (sums c (λ x y. 1))) in
     ap (λ n. inner own n v beside along corners) (ap (λ n. channel_by cfa n q) x)
-      ∙ ((at_shape v beside along corners cfa p q (omega arith) (omega arith)).same ∙ sym (of_three _ _ _ _ _ _ (is 0) (is 1) (is 2)))
+    ∙ ((at_shape v beside along corners cfa p q (omega arith) (omega arith)).same ∙ sym (of_three _ _ _ _ _ _ (is 0) (is 1) (is 2)))
 
 pub otherwise : (own c x y : ℕ) → (own ≡ c → ⊥) → (if own == c then x else y) ≡ y
 otherwise own c x y ne = let t = ne_eqb own c ne in rw t refl

@@ -1,5 +1,5 @@
 -- what the ranges of the settings say of each channel
-use Rattle.std.proofs.Common.{◌≡◌, ℕ, ◌<◌, ◌≤◌, slice_index, arith}
+use Rattle.std.proofs.Common.{ℕ, ◌<◌, ◌≤◌, slice_index, arith}
 use Rattle.std.proofs.lemmas.Int.{ints}
 use Rattle.params.specs.declared.settings.RawPrepare.{RawPrepare}
 use Rattle.params.specs.declared.settings.Temperature.{Temperature}

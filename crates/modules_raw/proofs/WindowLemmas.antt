@@ -1,5 +1,5 @@
 -- windows of a plane
-use Rattle.std.proofs.Common.{◌≡◌, ℕ, zero, suc, ◌+◌, ◌-◌, ◌/◌, ◌%◌, ◌<◌, ◌≤◌, ◌==◌, min, if◌then◌else◌, List, [], ◌∷◌, slice_index, refl, sym, ap, ◌∙◌, subst, arith}
+use Rattle.std.proofs.Common.{◌≡◌, ℕ, ◌+◌, ◌-◌, ◌<◌, ◌≤◌, ◌==◌, if◌then◌else◌, List, [], ◌∷◌, slice_index, refl, sym, ap, ◌∙◌, subst, arith}
 use Rattle.px.specs.declared.kind.Cfa.{Cfa}
 use Rattle.px.specs.declared.kind.PlaneKind.TheVariants.{Mosaic}
 use Rattle.px.specs.Area.{Area, HasPixel, Covers, IsIn, grown}
@@ -22,8 +22,8 @@ pub inner_here : (p : Cut) (cfa : Cfa) (w h lo y i m X Y own side : ℕ) (above 
     → lo + i ≡ X + 1 → y ≡ Y + 1 → 0 < i → i + 1 < m → lo + m ≤ w → y + 1 < h
     → own ≡ channel_at cfa (lo + i) y → side ≡ channel_at cfa (lo + i + 1) y
     → inner own side (slice_index here i) (slice_index here (i - 1) + slice_index here (i + 1)) (slice_index above i + slice_index below i)
-        (slice_index above (i - 1) + slice_index above (i + 1) + (slice_index below (i - 1) + slice_index below (i + 1)))
-      ≡ demosaiced cfa w h (value_at p) (X + 1) (Y + 1) 0 ∷ demosaiced cfa w h (value_at p) (X + 1) (Y + 1) 1 ∷ demosaiced cfa w h (value_at p) (X + 1) (Y + 1) 2 ∷ []
+    (slice_index above (i - 1) + slice_index above (i + 1) + (slice_index below (i - 1) + slice_index below (i + 1)))
+    ≡ demosaiced cfa w h (value_at p) (X + 1) (Y + 1) 0 ∷ demosaiced cfa w h (value_at p) (X + 1) (Y + 1) 1 ∷ demosaiced cfa w h (value_at p) (X + 1) (Y + 1) 2 ∷ []
 inner_here p cfa w h lo y i m X Y own side above here below a b d column line some within right low o s =
     let own_is : own ≡ channel_at cfa (X + 1) (Y + 1) = o ∙ (ap (λ n. channel_at cfa n y) column ∙ ap (λ n. channel_at cfa (X + 1) n) line) in
     let next : lo + i + 1 ≡ X + 2 = omega arith in
@@ -46,9 +46,9 @@ pub demosaiced_same : (cfa : Cfa) (w h : ℕ) (at at' : ℕ → ℕ → ℕ → 
 demosaiced_same cfa w h at at' x y c right below few same =
     let own = same x y (record { left = omega arith; right = omega arith; top = omega arith; bottom = omega arith }) in
     let mean = mean_same (Mosaic cfa) at at' c (window w h x y) few
-        (λ u v d inside one. let d0 : d ≡ 0 = omega arith in rw d0 (same u v inside)) in
+    (λ u v d inside one. let d0 : d ≡ 0 = omega arith in rw d0 (same u v inside)) in
     ap (λ n. if channel_at cfa x y == c then n else mean_in (Mosaic cfa) at c (window w h x y)) own
-      ∙ ap (λ n. if channel_at cfa x y == c then at' x y 0 else n) mean
+    ∙ ap (λ n. if channel_at cfa x y == c then at' x y 0 else n) mean
 
 pub moved : (p : Cut) (cfa : Cfa) (w h x y x' y' : ℕ) (r : List ℕ) → x ≡ x' → y ≡ y'
     → r ≡ demosaiced cfa w h (value_at p) x y 0 ∷ demosaiced cfa w h (value_at p) x y 1 ∷ demosaiced cfa w h (value_at p) x y 2 ∷ []
@@ -67,8 +67,8 @@ pixel_of_whole cfa q p w h x y r wide high part mosaic right below covers is =
     let size : 1 ≡ channels q.kind = sym (ap channels (sym part.kind ∙ mosaic)) in
     let first : 0 < channels q.kind = rw (← size) (omega arith) in
     let same : (c : ℕ) → c < 3 → demosaiced cfa w h (value_at p) x y c ≡ demosaiced cfa w h q.at x y c =
-        λ c few. demosaiced_same cfa w h (value_at p) q.at x y c right below few (λ u v inside.
-        part.same u v 0 (record { left = omega arith; right = omega arith; top = omega arith; bottom = omega arith }) first) in
+    λ c few. demosaiced_same cfa w h (value_at p) q.at x y c right below few (λ u v inside.
+    part.same u v 0 (record { left = omega arith; right = omega arith; top = omega arith; bottom = omega arith }) first) in
     let made : r ≡ demosaiced cfa w h q.at x y 0 ∷ demosaiced cfa w h q.at x y 1 ∷ demosaiced cfa w h q.at x y 2 ∷ [] = is.pixel ∙ rw (same 0 (omega arith), same 1 (omega arith), same 2 (omega arith)) refl in
     subst (λ n. r ≡ demosaiced cfa n q.h q.at x y 0 ∷ demosaiced cfa n q.h q.at x y 1 ∷ demosaiced cfa n q.h q.at x y 2 ∷ []) wide
     (subst (λ n. r ≡ demosaiced cfa w n q.at x y 0 ∷ demosaiced cfa w n q.at x y 1 ∷ demosaiced cfa w n q.at x y 2 ∷ []) high made)

@@ -1,8 +1,8 @@
 -- demosaic along a row
-use Rattle.std.specs.Prelude.{◌≡◌, ℕ, ◌+◌, ◌-◌, ◌*◌, ◌/◌, ◌%◌, ◌<◌, ◌≤◌, ◌==◌, min, List, [], ◌∷◌, length, slice_index, if◌then◌else◌}
+use Rattle.std.specs.Prelude.{◌≡◌, ℕ, ◌+◌, ◌/◌, ◌<◌, ◌≤◌, ◌==◌, List, [], ◌∷◌, length, slice_index, if◌then◌else◌}
 use Rattle.px.specs.declared.kind.Cfa.{Cfa}
 use Rattle.px.specs.declared.kind.PlaneKind.TheVariants.{Mosaic}
-use Rattle.px.specs.Area.{Area, Covers}
+use Rattle.px.specs.Area.{Covers}
 use Rattle.px.specs.Cut.{Cut, value_at}
 use Rattle.modules_raw.specs.Demosaic.{window, demosaiced}
 

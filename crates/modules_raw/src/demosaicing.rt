@@ -25,7 +25,8 @@ fn demosaic_mosaic<R: Threads + Sync>(
     ensures cut { IfOk result (λ p. (q : Picture) → IsCutOf q input.now → IsCutOf (demosaiced_by (Mosaic cfa) q) p) }
 {
     let (w, h) = input.sides();
-    paint(rt, alloc, PlaneKind::Rgb, w, h, region, &MosaicRows { input, cfa, w, h })
+    let painter = MosaicRows { input, cfa, w, h };
+    paint(rt, alloc, PlaneKind::Rgb, w, h, region, &painter)
 }
 
 /// Demosaic, over one region: a pixel's own colour keeps its value; another colour is the floor mean of

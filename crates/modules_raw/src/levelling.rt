@@ -61,5 +61,13 @@ pub fn level<R: Threads + Sync>(
         ensures top { (i : ℕ) → slice_index result i ≤ 1048575 }
     { level_pixel(plane, size, x, y) };
     let whole = Region::whole(level_w, level_h);
-    paint(rt, alloc, PlaneKind::Rgb, level_w, level_h, whole, &ByPixel { pixel })
+    paint(
+        rt,
+        alloc,
+        PlaneKind::Rgb,
+        level_w,
+        level_h,
+        whole,
+        &ByPixel { pixel },
+    )
 }

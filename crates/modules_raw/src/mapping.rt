@@ -86,5 +86,13 @@ pub(crate) fn map_region<R: Threads + Sync, M: ChannelMap + Drop + Sync>(
     ensures cut { IfOk result (λ p. (q : Picture) → IsCutOf q input.now → IsCutOf (mapped (M.makes map.now) q) p) }
 {
     let (w, h) = input.sides();
-    paint(rt, alloc, input.kind(), w, h, region, &MappedRows { map, input })
+    paint(
+        rt,
+        alloc,
+        input.kind(),
+        w,
+        h,
+        region,
+        &MappedRows { map, input },
+    )
 }

@@ -3,3 +3,4 @@ pub mod FaultLaws
 pub mod ShelfLaws
 pub mod FrontLemmas
 pub mod KeptFiles
+pub mod Writing

@@ -2,7 +2,9 @@ pub mod Faults
 pub mod Shelf
 pub mod Said
 pub mod Front
+pub mod Machine
 pub mod HostShelf
+pub mod HostSaid
 pub mod Calls
 pub mod MemoryShelf
 pub mod MemorySaid

@@ -1,4 +1,4 @@
-ghost use Rattle.std.specs.Prelude.{◌≡◌, ℕ, ◌+◌, ◌^◌, ◌<◌, ◌≤◌, List, length, take, drop, IfOk, IfSome, IsErrOf, Some, vec_len};
+ghost use Rattle.std.specs.Prelude.{◌≡◌, ℕ, ◌+◌, ◌^◌, ◌<◌, ◌≤◌, List, length, take, drop, IfOk, IfSome, OnOk, IsErrOf, Some, vec_len};
 ghost use Rattle.std.specs.Option.{option_map};
 ghost use Rattle.outside.specs.Faults.{Rose, NoneFalls};
 ghost use Rattle.outside.specs.Shelf.{held, ReadsAt};
@@ -32,6 +32,7 @@ pub fn read_front<S: Shelf>(
     ensures unchanged { S.files shelf.new ≡ S.files shelf.old }
 
     ensures cause { IsErrOf result Failed.Fault → Rose (S.read_faults shelf.old name.now) (S.read_faults shelf.new name.now) }
+    ensures quiet_memory { IsErrOf result Failed.Memory → S.read_faults shelf.new name.now ≡ S.read_faults shelf.old name.now }
     ensures reads { NoneFalls (S.read_faults shelf.old) (S.read_faults shelf.new) }
     ensures puts { NoneFalls (S.put_faults shelf.old) (S.put_faults shelf.new) }
 {
@@ -76,6 +77,8 @@ fn read_more<S: Shelf>(
     ensures unchanged { S.files shelf.new ≡ S.files shelf.old }
 
     ensures cause { IsErrOf result Failed.Fault → Rose (S.read_faults shelf.old name.now) (S.read_faults shelf.new name.now) }
+    ensures quiet { OnOk result (S.read_faults shelf.new name.now ≡ S.read_faults shelf.old name.now) }
+    ensures quiet_memory { IsErrOf result Failed.Memory → S.read_faults shelf.new name.now ≡ S.read_faults shelf.old name.now }
     ensures reads { NoneFalls (S.read_faults shelf.old) (S.read_faults shelf.new) }
     ensures puts { NoneFalls (S.put_faults shelf.old) (S.put_faults shelf.new) }
 {
@@ -100,6 +103,8 @@ fn read_behind<S: Shelf>(
     ensures unchanged { S.files shelf.new ≡ S.files shelf.old }
 
     ensures cause { IsErrOf result Failed.Fault → Rose (S.read_faults shelf.old name.now) (S.read_faults shelf.new name.now) }
+    ensures quiet { OnOk result (S.read_faults shelf.new name.now ≡ S.read_faults shelf.old name.now) }
+    ensures quiet_memory { IsErrOf result Failed.Memory → S.read_faults shelf.new name.now ≡ S.read_faults shelf.old name.now }
     ensures reads { NoneFalls (S.read_faults shelf.old) (S.read_faults shelf.new) }
     ensures puts { NoneFalls (S.put_faults shelf.old) (S.put_faults shelf.new) }
 {

@@ -1,20 +1,23 @@
 ghost use Rattle.std.specs.Prelude.{◌≡◌, ℕ, ◌≤◌, List, length, IfOk, IfSome, OnOk, IsErrOf, Option, None};
 ghost use Rattle.outside.specs.Faults.{Rose, NoneFalls, counted};
 ghost use Rattle.outside.specs.Shelf.{Files, held, ReadsAt, Puts, PutsInPart};
+ghost use Rattle.outside.specs.Machine.{IsRead, IsWritten};
 
+use crate::answered::answered;
 use crate::failed::Failed;
+use crate::host_files::{read_file, write_file};
 use crate::shelf::Shelf;
-use std::fs::File;
-use std::io;
-use std::io::{Read, Seek, SeekFrom, Write};
 use std::marker::Model;
 use std::rt::Files;
 
 /// The files of the machine, by their paths.
 ///
 /// It tells nothing of what a file holds. A refused read or put is a fault, and each kind has one
-/// count for all names. A file is opened anew for each call. A put writes over the file that stands
-/// there, so a put that is refused half-way leaves a prefix of the new bytes.
+/// count for all names. A file is opened anew for each call, and no call takes memory.
+///
+/// A put of a new name or over a regular file writes a file beside it, `.devcore-N.part`, and renames
+/// that, so a put that is refused leaves what stood there. The new file has the permissions of the old
+/// one. A link or a device is written in place, so there a refused put may leave a prefix.
 #[derive(Drop)]
 pub struct HostShelf<'r, R: Files> {
     rt: &'r R,
@@ -56,18 +59,16 @@ impl<'r, R: Files> Shelf for HostShelf<'r, R> {
         ensures unchanged { ◌≡◌ {A = Option Files} None None }
 
         ensures cause { IsErrOf result Failed.Fault → Rose self.old.reads self.new.reads }
+        ensures quiet { OnOk result (self.new.reads ≡ self.old.reads) }
+        ensures quiet_memory { IsErrOf result Failed.Memory → self.new.reads ≡ self.old.reads }
         ensures reads { NoneFalls (λ _. self.old.reads) (λ _. self.new.reads) }
         ensures puts { NoneFalls (λ _. self.old.puts) (λ _. self.new.puts) }
 
+        ensures no_memory { ¬ (IsErrOf result Failed.Memory) }
+        ensures read { IfOk result (λ n. IsRead R.File.stream_position R.File.remaining at n buf.new) }
         ensures count { self.new ≡ record self.old { reads = counted result self.old.reads } }
     {
-        match read_file(self.rt, name, at, buf) {
-            Ok(count) => Ok(count),
-            Err(_) => {
-                self.read_faults = self.read_faults.saturating_add(1);
-                Err(Failed::Fault)
-            }
-        }
+        answered(read_file(self.rt, name, at, buf), &mut self.read_faults)
     }
 
     fn put(&mut self, name: &str, bytes: &[u8]) -> Result<(), Failed>
@@ -79,26 +80,10 @@ impl<'r, R: Files> Shelf for HostShelf<'r, R> {
         ensures reads { NoneFalls (λ _. self.old.reads) (λ _. self.new.reads) }
         ensures puts { NoneFalls (λ _. self.old.puts) (λ _. self.new.puts) }
 
+        ensures no_memory { ¬ (IsErrOf result Failed.Memory) }
+        ensures written { OnOk result (IsWritten R.File.contents bytes.now) }
         ensures count { self.new ≡ record self.old { puts = counted result self.old.puts } }
     {
-        match write_file(self.rt, name, bytes) {
-            Ok(()) => Ok(()),
-            Err(_) => {
-                self.put_faults = self.put_faults.saturating_add(1);
-                Err(Failed::Fault)
-            }
-        }
+        answered(write_file(self.rt, name, bytes), &mut self.put_faults)
     }
-}
-
-fn read_file<R: Files>(rt: &R, name: &str, at: u64, buf: &mut [u8]) -> io::Result<usize>
-    ensures { IfOk result (λ n. n ≤ length buf.new) }
-{
-    let mut file = File::open(rt, name)?;
-    file.seek(SeekFrom::Start(at))?;
-    file.read(buf)
-}
-
-fn write_file<R: Files>(rt: &R, name: &str, bytes: &[u8]) -> io::Result<()> {
-    File::create(rt, name)?.write_all(bytes)
 }

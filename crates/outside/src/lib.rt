@@ -5,9 +5,12 @@
 //! `HostShelf` and `HostSaid` are real files and a real output.
 #![tactic(auto)]
 
+mod answered;
+mod beside;
 mod calls;
 mod failed;
 mod front;
+mod host_files;
 mod host_said;
 mod host_shelf;
 mod job_name;
@@ -16,8 +19,7 @@ mod memory_shelf;
 mod name;
 mod said;
 mod shelf;
-#[cfg(test)]
-mod tests;
+mod write_whole;
 
 pub use failed::Failed;
 pub use front::read_front;

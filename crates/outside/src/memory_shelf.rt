@@ -90,6 +90,8 @@ impl Shelf for MemoryShelf {
         ensures unchanged { Some self.new.files ≡ Some self.old.files }
 
         ensures cause { IsErrOf result Failed.Fault → Rose self.old.reads.faults self.new.reads.faults }
+        ensures quiet { OnOk result (self.new.reads.faults ≡ self.old.reads.faults) }
+        ensures quiet_memory { IsErrOf result Failed.Memory → self.new.reads.faults ≡ self.old.reads.faults }
         ensures reads { NoneFalls (λ _. self.old.reads.faults) (λ _. self.new.reads.faults) }
         ensures puts { NoneFalls (λ _. self.old.puts.faults) (λ _. self.new.puts.faults) }
 

@@ -18,13 +18,15 @@ pub trait Shelf {
     /// Reads into the front of `buf` what the file has from the place `at` on, and returns how many
     /// bytes that are. With a buffer that isn't empty, 0 is the end of the file.
     ///
-    /// A file that is missing is a fault.
+    /// A file that is missing is a fault. Only a fault is counted.
     fn read_at(&mut self, name: &str, at: u64, buf: &mut [u8]) -> Result<usize, Failed>
         ensures fits { IfOk result (λ n. n ≤ length buf.new) }
         ensures bytes { IfOk result (λ n. IfSome (files self.old) (λ fs. ReadsAt (held fs name.now) at n buf.new)) }
         ensures unchanged { files self.new ≡ files self.old }
 
         ensures cause { IsErrOf result Failed.Fault → Rose (read_faults self.old name.now) (read_faults self.new name.now) }
+        ensures quiet { OnOk result (read_faults self.new name.now ≡ read_faults self.old name.now) }
+        ensures quiet_memory { IsErrOf result Failed.Memory → read_faults self.new name.now ≡ read_faults self.old name.now }
         ensures reads { NoneFalls (read_faults self.old) (read_faults self.new) }
         ensures puts { NoneFalls (put_faults self.old) (put_faults self.new) };
 

@@ -16,8 +16,8 @@ use Rattle.history.specs.History.{IsHistory}
 use Rattle.history.specs.After.{live_items}
 use Rattle.history.proofs.HistoryLemmas.{Stands, check-Stands}
 use Rattle.pipe_nodes.specs.declared.active.Active.{Active}
-use Rattle.pipe_nodes.specs.Active.{IsFit, IsBuilt}
-use Rattle.pipe_nodes.specs.Actives.{demosaic, IsBuiltItem, last_of, active_of, active_at, actives_of}
+use Rattle.pipe_nodes.specs.Active.{IsFit, IsPlain}
+use Rattle.pipe_nodes.specs.Actives.{demosaic, IsPlainItem, last_of, active_of, active_at, actives_of}
 
 top_item-push : (items : List Item) (item : Item) → top_item (items ++ item ∷ []) ≡ Some item
 top_item-push items item =
@@ -83,10 +83,9 @@ pub actives-fit : (h : Stack) → IsHistory h → All IsFit (actives_of h)
 actives-fit h history = actives-all IsFit h fit_demosaic (All-weaker (Stands h.order) (λ item. IfSome (active_of item) IsFit)
     (λ item stands. let checks = check-Stands h.order item stands in enabled_all IsFit item (record { params = checks.0; blend = checks.1 })) h.items history.items)
 
--- where a run can apply each item's values, it can apply what is active
-pub actives-built : (h : Stack) → All IsBuiltItem h.items → All IsBuilt (actives_of h)
-actives-built h all = actives-all IsBuilt h (record { «module» = refl; plain = refl }) (All-weaker IsBuiltItem (λ item. IfSome (active_of item) IsBuilt)
-    (λ item built. enabled_all IsBuilt item (record { «module» = built.module; plain = built.plain })) h.items all)
+-- where no item has a blend, nothing that is active has one
+pub actives-plain : (h : Stack) → All IsPlainItem h.items → All IsPlain (actives_of h)
+actives-plain h all = actives-all IsPlain h refl (All-weaker IsPlainItem (λ item. IfSome (active_of item) IsPlain) (λ item plain. enabled_all IsPlain item plain) h.items all)
 
 one_gathered : (o : Option Active) → cons_option o [] ≡ option_to_list o
 one_gathered None = refl

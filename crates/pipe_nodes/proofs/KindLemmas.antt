@@ -2,7 +2,7 @@
 use Rattle.std.proofs.Common.{◌≡◌, ℕ, ◌-◌, ◌<◌, ◌≤◌, true, false, cond, List, [], ◌∷◌, ◌++◌, length, take, drop, refl, sym, ap, ◌∙◌, subst, arith, Option, Some, None}
 use Rattle.std.specs.Prelude.{⊤, slice_get, option_and_then, IfSome}
 use Rattle.std.specs.List.{All, filter, filter_map, cons_option}
-use Rattle.std.proofs.lemmas.List.{take-append-drop}
+use Rattle.std.proofs.lemmas.List.{take-append-drop, take_all}
 use Rattle.std.proofs.lemmas.List.Elements.{filter_passes, filter_map-append}
 use Rattle.std.proofs.lemmas.Option.{slice_get_within, get_or_from_slice_get}
 use Rattle.px.specs.declared.kind.PlaneKind.{PlaneKind}
@@ -93,3 +93,10 @@ pub actives-run : (h : Stack) → IsOrder h.order → (k : PlaneKind) → IsRun 
 actives-run h order k =
     let front : fixed_slots ++ drop 3 h.order ≡ h.order = ap (λ slots. slots ++ drop 3 h.order) (sym order.front) ∙ take-append-drop 3 h.order in
     subst (λ slots. IsRun k (filter_map (active_at (live_items h)) slots)) front (run_along k (live_items h) (drop 3 h.order))
+
+-- what was gathered along a whole order is a run
+pub gathered-run : (h : Stack) (list : List Active) (items : List Item) (order : List Slot) (end i : ℕ) → IsOrder order → items ≡ h.items → order ≡ h.order → end ≡ h.end → length order ≤ i
+    → list ≡ filter_map (active_at (take end items)) (take i order) → (k : PlaneKind) → IsRun k list
+gathered-run h list items order end i is_order items_is order_is end_is past gathered k =
+    let all : list ≡ actives_of h = gathered ∙ rw (take_all i order past, items_is, order_is, end_is) refl in
+    subst (IsRun k) (sym all) (actives-run h (subst IsOrder order_is is_order) k)

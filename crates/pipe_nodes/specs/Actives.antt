@@ -1,5 +1,5 @@
 -- What is active in a history.
-use Rattle.std.specs.Prelude.{◌≡◌, IsTrue, if◌then◌else◌, List, Option, Some, None, option_and_then}
+use Rattle.std.specs.Prelude.{◌≡◌, if◌then◌else◌, List, Option, Some, None, option_and_then}
 use Rattle.std.specs.List.{filter, filter_map}
 use Rattle.params.specs.declared.settings.Params.TheVariants.{Demosaic}
 use Rattle.params.specs.Ranges.{module_of}
@@ -10,7 +10,6 @@ use Rattle.history.specs.Item.{is_of, top_item}
 use Rattle.history.specs.Stack.{Stack}
 use Rattle.history.specs.After.{live_items}
 use Rattle.pipe_nodes.specs.declared.active.Active.{Active}
-use Rattle.pipe_nodes.specs.Active.{is_built_module}
 
 -- demosaic, which takes no item
 abbrev pub demosaic : Active
@@ -24,10 +23,9 @@ last_of s items = top_item (filter (is_of s) items)
 abbrev pub active_of : Item → Option Active
 active_of item = if item.enabled then Some (record { instance = item.instance; params = item.params; blend = item.blend }) else None
 
--- a run can apply the item's values, so far: its module is built, and it has no blend
-pub record IsBuiltItem (item : Item) : Type 0 where
-  pub «module» : IsTrue (is_built_module (module_of item.params))
-  pub plain : item.blend ≡ None
+-- a run can apply the item's values, so far: it has no blend
+abbrev pub IsPlainItem : Item → Type 0
+IsPlainItem item = item.blend ≡ None
 
 -- what is active of the instance, by the items that count: an instance without an item is disabled, and demosaic is always active
 abbrev pub active_at : List Item → Slot → Option Active

@@ -1,8 +1,8 @@
 pub mod Active
 pub mod Actives
 pub mod Applied
+pub mod Kinds
 pub mod Prefix
 pub mod SamePrefix
-pub mod Source
 pub mod Staged
 pub mod Whole

@@ -1,21 +1,39 @@
 -- What a list of module instances makes of a source: pictures as a whole, without regions and without caches.
-use Rattle.std.specs.Prelude.{ℕ, List, [], ◌∷◌, ◌++◌, Option, Some, None}
+use Rattle.std.specs.Prelude.{ℕ, zero, suc, List, [], ◌∷◌, ◌++◌, Option, Some, None}
 use Rattle.params.specs.declared.blending.Blend.{Blend}
 use Rattle.params.specs.declared.settings.Params.{Params}
 use Rattle.params.specs.declared.settings.Params.TheVariants as params
 use Rattle.px.specs.Picture.{Picture}
+use Rattle.modules_raw.specs.Balancing.{balanced_picture}
+use Rattle.modules_raw.specs.Demosaic.{demosaiced_picture}
+use Rattle.modules_raw.specs.Levels.{levelled}
+use Rattle.modules_raw.specs.Preparing.{prepared_picture}
+use Rattle.modules_geometry.specs.Moved.{turned_picture, cropped_picture}
+use Rattle.modules_colour.specs.Curving.{curved_picture}
 use Rattle.modules_colour.specs.Exposing.{exposed_picture}
+use Rattle.modules_colour.specs.Mixing.{mixed_picture}
+use Rattle.local_modules.specs.Blurring.{blurred_picture}
+use Rattle.local_modules.specs.Radius.{radius_of}
+use Rattle.local_modules.specs.Sharpening.{sharpened_picture}
 use Rattle.pipe_nodes.specs.declared.active.Active.{Active}
 
--- the picture that a run over a mipmap level begins with. Level 0 is the source, and no other level is built yet
+-- the picture that a run over a mipmap level begins with: level 0 is the source
 abbrev pub input_of : Picture → ℕ → Picture
-input_of source level = source
+input_of source zero = source
+input_of source (suc l) = levelled (suc l) source
 
--- the output of a module by itself. On an RGB picture demosaic changes nothing. A module that isn't built yet stands for none
-abbrev pub means : Params → Picture → Picture
-means params.Demosaic i = i
-means (params.Exposure e) i = exposed_picture e i
-means _ i = i
+-- the output of a module by itself, on a picture of that level. Only the modules that look around a pixel look at the level
+abbrev pub means : Params → ℕ → Picture → Picture
+means (params.RawPrepare p) level i = prepared_picture p i
+means (params.Temperature p) level i = balanced_picture p i
+means params.Demosaic level i = demosaiced_picture i
+means (params.Orientation p) level i = turned_picture p i
+means (params.Crop p) level i = cropped_picture p i
+means (params.Exposure p) level i = exposed_picture p i
+means (params.ChannelMixer p) level i = mixed_picture p i
+means (params.ToneCurve p) level i = curved_picture p i
+means (params.BoxBlur p) level i = blurred_picture (radius_of p.radius level) i
+means (params.Sharpen p) level i = sharpened_picture (radius_of p.radius level) p.amount i
 
 -- the output m of a module mixed with its input i. A mask is placed in the source, so that it needs the source's sides, the level,
 -- and the module instances before. No mix is built yet
@@ -25,7 +43,7 @@ blended source level before (Some blend) i m = m
 
 -- the picture i, behind these module instances, after one more
 abbrev pub after_one : Picture → ℕ → List Active → Active → Picture → Picture
-after_one source level before a i = blended source level before a.blend i (means a.params i)
+after_one source level before a i = blended source level before a.blend i (means a.params level i)
 
 -- the picture i, behind the instances `before`, after the ones that follow
 abbrev pub run_from : Picture → ℕ → List Active → List Active → Picture → Picture

@@ -1,8 +1,7 @@
 ghost use Rattle.std.specs.Prelude.{◌≡◌, ◌↔◌, IsTrue, IfOk};
-ghost use Rattle.std.specs.List.{All};
-ghost use Rattle.pipe_nodes.specs.Active.{is_built_module, IsFit, IsBuilt};
+ghost use Rattle.pipe_nodes.specs.Active.{IsFit, IsPlain};
 
-use params::{Blend, Module, Params};
+use params::{Blend, Params};
 use std::alloc::{AllocError, Global};
 
 /// A module instance as it stands in a pipe: its number among the instances of its module, its settings,
@@ -36,29 +35,10 @@ impl Active {
         params.is_ok() && blend.is_ok()
     }
 
-    /// Whether a run can apply it, so far: it is of demosaic or of exposure, and has no blend.
-    pub fn is_built(&self) -> bool
-        ensures { IsTrue result ↔ IsBuilt self.now }
+    /// Whether a run can apply it, so far: it has no blend.
+    pub fn is_plain(&self) -> bool
+        ensures { IsTrue result ↔ IsPlain self.now }
     {
-        is_built_module(self.params.module()) && self.blend.is_none()
+        self.blend.is_none()
     }
-}
-
-// Whether a run can apply the module, so far.
-pub(crate) fn is_built_module(module: Module) -> bool
-    ensures { result ≡ is_built_module «module» }
-{
-    matches!(module, Module::Demosaic | Module::Exposure)
-}
-
-/// Whether a run can apply each of them, so far.
-pub fn are_built(actives: &[Active]) -> bool
-    ensures { IsTrue result ↔ All IsBuilt actives.now }
-{
-    for active in actives {
-        if !active.is_built() {
-            return false;
-        }
-    }
-    true
 }

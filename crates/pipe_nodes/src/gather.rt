@@ -1,10 +1,12 @@
 ghost use Rattle.std.specs.Prelude.{◌≡◌, ◌↔◌, IsTrue, ◌<◌, ◌≤◌, ◌+◌, ◌++◌, IfOk, vec_len, vec_capacity};
 ghost use Rattle.std.specs.List.{All};
 ghost use Rattle.std.specs.Option.{option_copied, option_to_list};
+ghost use Rattle.px.specs.declared.kind.PlaneKind.{PlaneKind};
 ghost use Rattle.pipe_nodes.specs.Active.{IsFit};
-ghost use Rattle.pipe_nodes.specs.Actives.{IsBuiltItem, last_of, active_of, active_at, actives_of};
+ghost use Rattle.pipe_nodes.specs.Actives.{IsPlainItem, last_of, active_of, active_at, actives_of};
+ghost use Rattle.pipe_nodes.specs.Kinds.{IsRun};
 
-use crate::active::{Active, is_built_module};
+use crate::active::Active;
 use history::{History, Item};
 use module_order::Slot;
 use params::Params;
@@ -72,20 +74,21 @@ fn keep(actives: &mut Vec<Active>, active: Option<Active>)
     }
 }
 
-/// Whether a run can apply the item's values, so far: it is of demosaic or of exposure, and has no
-/// blend.
-pub fn is_built_item(item: &Item) -> bool
-    ensures { IsTrue result ↔ IsBuiltItem item.now }
+/// Whether a run can apply the item's values, so far: it has no blend.
+pub fn is_plain_item(item: &Item) -> bool
+    ensures { IsTrue result ↔ IsPlainItem item.now }
 {
-    is_built_module(item.module()) && item.blend.is_none()
+    item.blend.is_none()
 }
 
 /// What is active in a history, along the order of its instances: of each instance the last item among
 /// those that count, where it is enabled. An instance without an item is disabled, and demosaic is
-/// always active.
+/// always active. So whatever the kind of the picture that a run begins with, each takes what those
+/// before it make, and the last makes an RGB picture.
 pub fn actives(alloc: Global, history: &History) -> Result<Vec<Active>, AllocError>
     ensures value { IfOk result (λ list. list.items ≡ actives_of history.now) }
     ensures fit { IfOk result (λ list. All IsFit list.items) }
+    ensures run { IfOk result (λ list. (k : PlaneKind) → IsRun k list.items) }
 {
     let items = &history.items()[..history.end() as usize];
     let order = history.order();

@@ -88,7 +88,8 @@ impl Prefix {
 
     /// The level, 0 to 8.
     pub fn level(&self) -> u8
-        ensures { result ≡ self.now.level }
+        ensures level { result ≡ self.now.level }
+        ensures valid { IsPrefix self.now }
     {
         self.level
     }

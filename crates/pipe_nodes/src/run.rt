@@ -1,83 +1,107 @@
 //! The plain run: whole pictures, without regions and without caches.
-ghost use Rattle.std.specs.Prelude.{◌≡◌, IfOk, unwrap_or};
+ghost use Rattle.std.specs.Prelude.{◌≡◌, ◌≤◌, IfOk, unwrap_or};
 ghost use Rattle.std.specs.List.{All};
-ghost use Rattle.px.specs.Cut.{IsCutOf};
+ghost use Rattle.px.specs.declared.kind.PlaneKind.TheVariants.{Rgb};
+ghost use Rattle.px.specs.Cut.{IsCutOf, IsWhole};
 ghost use Rattle.px.specs.Picture.{Picture};
 ghost use Rattle.pnm.specs.Pnm.{written};
 ghost use Rattle.pipe_nodes.specs.declared.show.Window.TheVariants.{Whole};
-ghost use Rattle.pipe_nodes.specs.Active.{IsFit, IsBuilt};
+ghost use Rattle.pipe_nodes.specs.Active.{IsFit, IsPlain};
 ghost use Rattle.pipe_nodes.specs.Actives.{actives_of};
-ghost use Rattle.pipe_nodes.specs.Source.{IsSource};
-ghost use Rattle.pipe_nodes.specs.Whole.{means, whole};
+ghost use Rattle.pipe_nodes.specs.Kinds.{Takes, AllTake, kind_after, kind_behind};
+ghost use Rattle.pipe_nodes.specs.Whole.{input_of, means, whole};
 
 use crate::active::Active;
 use crate::apply::apply;
 use crate::gather::actives;
 use crate::show::{Show, Window};
-use crate::source::Source;
+use geometry::{roi_back, roi_out};
 use history::History;
-use px::{Depth, Plane};
+use modules_raw::{Source, level};
+use px::{Depth, Plane, Region};
 use std::alloc::{AllocError, Global};
 use std::thread::Threads;
 
-// The output of one module instance over a whole picture, where it isn't that picture itself.
+// The output of one module instance over a whole picture of that level, where it isn't that picture
+// itself.
 fn step<R: Threads + Sync>(
     rt: &R,
     alloc: Global,
     active: &Active,
+    level: u8,
     input: &Plane,
 ) -> Result<Option<Plane>, AllocError>
     requires fit { IsFit active.now }
-    requires source { IsSource input.now }
-    requires built { IsBuilt active.now }
-    ensures source { IfOk result (λ made. IsSource (unwrap_or made input.now)) }
-    ensures cut { IfOk result (λ made. (q : Picture) → IsCutOf q input.now → IsCutOf (means active.now.params q) (unwrap_or made input.now)) }
+    requires plain { IsPlain active.now }
+    requires level { level ≤ 8 }
+    requires takes { Takes active.now.params input.now.kind }
+    requires whole { IsWhole input.now }
+    ensures whole { IfOk result (λ made. IsWhole (unwrap_or made input.now)) }
+    ensures kind { IfOk result (λ made. (unwrap_or made input.now).kind ≡ kind_after input.now.kind active.now.params) }
+    ensures cut { IfOk result (λ made. (q : Picture) → IsCutOf q input.now → IsCutOf (means active.now.params level q) (unwrap_or made input.now)) }
 {
-    apply(rt, alloc, active, input, input.region())
+    let (w, h) = input.sides();
+    let (columns, rows) = roi_out(&active.params, w, h);
+    let region = Region::whole(columns, rows);
+    prove!(input.region().covers(roi_back(&active.params, w, h, region)));
+    apply(rt, alloc, active, level, input, region)
 }
 
-// The plane that was made, or else the source's.
-fn standing<'a>(made: &'a Option<Plane>, source: &'a Plane) -> &'a Plane
-    ensures { result.now ≡ unwrap_or made.now source.now }
+// The plane that was made, or else the one before.
+fn standing<'a>(made: &'a Option<Plane>, before: &'a Plane) -> &'a Plane
+    ensures { result.now ≡ unwrap_or made.now before.now }
 {
     match made {
         Some(plane) => plane,
-        None => source,
+        None => before,
     }
 }
 
-// The plane that the module instances make of a source's, where it isn't that plane itself.
+// The plane that the module instances make of a whole picture of that level, where it isn't that plane
+// itself.
 fn run_over<R: Threads + Sync>(
     rt: &R,
     alloc: Global,
-    source: &Plane,
+    level: u8,
+    input: &Plane,
     actives: &[Active],
 ) -> Result<Option<Plane>, AllocError>
-    requires source { IsSource source.now }
+    requires level { level ≤ 8 }
+    requires whole { IsWhole input.now }
     requires fit { All IsFit actives.now }
-    requires built { All IsBuilt actives.now }
-    ensures source { IfOk result (λ made. IsSource (unwrap_or made source.now)) }
-    ensures cut { IfOk result (λ made. (q : Picture) → IsCutOf q source.now → IsCutOf (whole q 0 actives.now) (unwrap_or made source.now)) }
+    requires plain { All IsPlain actives.now }
+    requires takes { AllTake input.now.kind actives.now }
+    ensures whole { IfOk result (λ made. IsWhole (unwrap_or made input.now)) }
+    ensures kind { IfOk result (λ made. (unwrap_or made input.now).kind ≡ kind_behind input.now.kind actives.now) }
+    ensures cut { IfOk result (λ made. (q : Picture) → IsCutOf (input_of q level) input.now → IsCutOf (whole q level actives.now) (unwrap_or made input.now)) }
 {
     let mut made = None;
     for active in actives {
-        let next = step(rt, alloc, active, standing(&made, source))?;
+        let next = step(rt, alloc, active, level, standing(&made, input))?;
         made = next.or(made);
     }
     Ok(made)
 }
 
-// The same plane once more.
-fn copy_plane(alloc: Global, plane: &Plane) -> Result<Plane, AllocError>
-    ensures { IfOk result (λ p. p ≡ plane.now) }
+// The level of the source, where it isn't the source itself.
+fn level_of<R: Threads + Sync>(
+    rt: &R,
+    alloc: Global,
+    source: &Source,
+    l: u8,
+) -> Result<Option<Plane>, AllocError>
+    requires { l ≤ 8 }
+    ensures whole { IfOk result (λ made. IsWhole (unwrap_or made source.now)) }
+    ensures cut { IfOk result (λ made. (q : Picture) → IsCutOf q source.now → IsCutOf (input_of q l) (unwrap_or made source.now)) }
 {
-    let (w, h) = plane.sides();
-    let values = Vec::from_slice(alloc, plane.values())?;
-    Ok(Plane::from_rows(plane.kind(), w, h, plane.region(), values))
+    if l == 0 {
+        return Ok(None);
+    }
+    Ok(Some(level(rt, alloc, source, l)?))
 }
 
-/// The picture that what is active in a history makes of a source, as a whole plane. So far a run
-/// takes level 0 and the whole window, and applies demosaic and exposures without a blend.
+/// The picture that what is active in a history makes of a level of a source, as a whole RGB plane. So
+/// far a run shows the whole window, and nothing that is active has a blend.
 pub fn uncached<R: Threads + Sync>(
     rt: &R,
     alloc: Global,
@@ -85,34 +109,45 @@ pub fn uncached<R: Threads + Sync>(
     history: &History,
     show: &Show,
 ) -> Result<Plane, AllocError>
-    requires level { show.now.level ≡ 0 }
+    requires level { show.now.level ≤ 8 }
     requires window { show.now.window ≡ Whole }
-    requires built { All IsBuilt (actives_of history.now) }
-    ensures source { IfOk result IsSource }
+    requires plain { All IsPlain (actives_of history.now) }
+    ensures whole { IfOk result IsWhole }
+    ensures rgb { IfOk result (λ p. p.kind ≡ Rgb) }
     ensures cut { IfOk result (λ p. (q : Picture) → IsCutOf q source.now → IsCutOf (whole q show.now.level (actives_of history.now)) p) }
 {
-    prove!(show.level == 0);
     prove!(matches!(&show.window, Window::Whole));
     let actives = actives(alloc, history)?;
-    match run_over(rt, alloc, source.plane(), &actives)? {
+    let input = level_of(rt, alloc, source, show.level)?;
+    let made = run_over(
+        rt,
+        alloc,
+        show.level,
+        standing(&input, source.plane()),
+        &actives,
+    )?;
+    match made.or(input) {
         Some(plane) => Ok(plane),
-        None => copy_plane(alloc, source.plane()),
+        None => source.plane().cut(alloc, source.plane().region()),
     }
 }
 
-/// The bytes of the same picture as a P6 of this depth. The source is written from where it stands, if
-/// nothing changes it.
+/// The same picture, of level 0, as the bytes of a P6 of this depth, with its sides. The source is written
+/// from where it stands, if nothing changes it.
 pub fn shown_bytes<R: Threads + Sync>(
     rt: &R,
     alloc: Global,
     source: &Source,
     history: &History,
     depth: Depth,
-) -> Result<Vec<u8>, AllocError>
-    requires built { All IsBuilt (actives_of history.now) }
-    ensures { IfOk result (λ b. (q : Picture) → IsCutOf q source.now → b.items ≡ written (whole q 0 (actives_of history.now)) depth) }
+) -> Result<(u32, u32, Vec<u8>), AllocError>
+    requires plain { All IsPlain (actives_of history.now) }
+    ensures sides { IfOk result (λ shown. (q : Picture) → IsCutOf q source.now → (shown.0, shown.1.0) ≡ ((whole q 0 (actives_of history.now)).w, (whole q 0 (actives_of history.now)).h)) }
+    ensures bytes { IfOk result (λ shown. (q : Picture) → IsCutOf q source.now → shown.1.1.items ≡ written (whole q 0 (actives_of history.now)) depth) }
 {
     let actives = actives(alloc, history)?;
-    let made = run_over(rt, alloc, source.plane(), &actives)?;
-    pnm::write(alloc, standing(&made, source.plane()), depth)
+    let made = run_over(rt, alloc, 0, source.plane(), &actives)?;
+    let plane = standing(&made, source.plane());
+    let (w, h) = plane.sides();
+    Ok((w, h, pnm::write(alloc, plane, depth)?))
 }

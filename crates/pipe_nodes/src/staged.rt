@@ -4,7 +4,7 @@ ghost use Rattle.px.specs.Cut.{IsPlane};
 ghost use Rattle.pipe_nodes.specs.Staged.{staged, IsRight};
 
 use crate::prefix::Prefix;
-use crate::source::Source;
+use modules_raw::Source;
 use px::{Plane, Region};
 use std::alloc::{AllocError, Global};
 use std::marker::Model;
@@ -31,15 +31,13 @@ impl Model for Staged {
 }
 
 impl Staged {
-    /// The stage of this prefix, whose plane holds its region of what the prefix makes of the source. So
-    /// far a run begins with level 0.
+    /// The stage of this prefix, whose plane holds its region of what the prefix makes of the source.
     pub fn of(
         alloc: Global,
         prefix: Prefix,
         plane: Plane,
         source: Arc<Source>,
     ) -> Result<Staged, AllocError>
-        requires level { prefix.level ≡ 0 }
         requires right { IsRight (staged prefix plane (arc_value source)) }
         ensures { IfOk result (λ s. s ≡ staged prefix plane (arc_value source)) }
     {

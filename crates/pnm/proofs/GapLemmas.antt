@@ -1,5 +1,5 @@
 -- gaps and numbers at the front of a text
-use Rattle.std.proofs.Common.{◌≡◌, ℕ, zero, suc, ◌+◌, ◌-◌, ◌*◌, ◌<◌, ◌≤◌, ◌==◌, ◌||◌, ◌&&◌, ◌⊎◌, inl, inr, nat_le, not, Bool, true, false, List, [], ◌∷◌, ◌++◌, length, if◌then◌else◌, refl, sym, ap, ◌∙◌, subst, ⊎_elim, append_assoc, arith}
+use Rattle.std.proofs.Common.{◌≡◌, ℕ, ◌<◌, ◌==◌, ◌||◌, inl, inr, Bool, true, false, List, [], ◌∷◌, ◌++◌, length, refl, ap, ◌∙◌, subst, ⊎_elim, arith}
 use Rattle.std.proofs.lemmas.Bool.{cases_Bool, eqb-true}
 use Rattle.std.proofs.lemmas.Bool.Decides.{nat_tests}
 use Rattle.pnm.specs.Fault.{after_filling, front_digits, after_digits, begins, number_text, number_of, behind}
@@ -56,9 +56,9 @@ filling_splits true [] h = absurd (cc)
 filling_splits false (b ∷ t) h = ⊎_elim
     (λ (w : is_white b ≡ true). rw w (filled_more false false b t (after_filling false t) (λ g fill. inl (w, fill)) (filling_splits false t (rw w at h))))
     (λ (n : is_white b ≡ false). ⊎_elim
-      (λ (c : (b == 35) ≡ true). rw (n, c) (filled_more false true b t (after_filling true t) (λ g fill. inr (eqb-true b 35 c, fill)) (filling_splits true t (rw (n, c) at h))))
-      (λ (d : (b == 35) ≡ false). rw (n, d) (record { gap = []; filling = tt; whole = refl }))
-      (cases_Bool (b == 35)))
+    (λ (c : (b == 35) ≡ true). rw (n, c) (filled_more false true b t (after_filling true t) (λ g fill. inr (eqb-true b 35 c, fill)) (filling_splits true t (rw (n, c) at h))))
+    (λ (d : (b == 35) ≡ false). rw (n, d) (record { gap = []; filling = tt; whole = refl }))
+    (cases_Bool (b == 35)))
     (cases_Bool (is_white b))
 filling_splits true (b ∷ t) h = ⊎_elim
     (λ (e : is_line_end b ≡ true). rw e (filled_more true false b t (after_filling false t) (λ g fill. inl (e, fill)) (filling_splits false t (rw e at h))))

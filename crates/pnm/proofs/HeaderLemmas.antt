@@ -1,6 +1,6 @@
 -- headers as their words
-use Rattle.std.proofs.Common.{◌≡◌, ℕ, zero, suc, ◌+◌, ◌-◌, ◌*◌, ◌<◌, ◌≤◌, ◌==◌, ◌||◌, ◌&&◌, ◌⊎◌, inl, inr, nat_lt, Bool, true, false, Option, None, Some, List, [], ◌∷◌, ◌++◌, length, take, drop, slice_index, refl, sym, ap, ◌∙◌, subst, ⊎_elim, arith}
-use Rattle.std.proofs.lemmas.Bool.{cases_lt, eq-eqb, or_parts, or_from, le-ltb}
+use Rattle.std.proofs.Common.{◌≡◌, ℕ, ◌*◌, ◌<◌, ◌≤◌, ◌==◌, ◌||◌, ◌&&◌, ◌⊎◌, nat_lt, true, false, Option, None, List, [], ◌∷◌, ◌++◌, length, take, drop, slice_index, refl, sym, ap, ◌∙◌, subst, ⊎_elim, arith}
+use Rattle.std.proofs.lemmas.Bool.{cases_lt, or_from, le-ltb}
 use Rattle.std.proofs.lemmas.Bool.Decides.{nat_tests}
 use Rattle.std.proofs.lemmas.List.{get_or_past, length-append, take_at}
 use Rattle.px.specs.declared.kind.Cfa.{Cfa}
@@ -9,13 +9,13 @@ use Rattle.px.specs.declared.kind.PlaneKind.TheVariants.{Mosaic, Rgb}
 use Rattle.px.specs.Kind.{least_side}
 use Rattle.px.specs.Picture.{Picture}
 use Rattle.pnm.specs.declared.fault.PnmKind.TheVariants.{BadHeader, TooLarge, BadMaxval}
-use Rattle.pnm.specs.Fault.{begins, behind, fault_of, greatest_gap, height_gap, is_other, is_read, kind_of, last_white, magic_fault, number_fault, number_of, number_text, raster_fault, raster_len, raster_text, sides_fault, width_gap}
-use Rattle.pnm.specs.Grammar.{is_white, IsGap, IsNumeral}
-use Rattle.pnm.specs.Header.{HasNumber, HasWords}
+use Rattle.pnm.specs.Fault.{begins, behind, fault_of, greatest_gap, height_gap, kind_of, last_white, number_of, number_text, raster_len, raster_text, sides_fault, width_gap}
+use Rattle.pnm.specs.Grammar.{is_white}
+use Rattle.pnm.specs.Header.{HasNumber}
 use Rattle.pnm.specs.Pnm.{IsPicture}
 use Rattle.pnm.specs.Samples.{bytes_of_sample, read_kind, samples_of_magic}
 use Rattle.pnm.proofs.FaultLemmas.{magic_none, number_none, sides_none, raster_none}
-use Rattle.pnm.proofs.GapLemmas.{Reads, number_reads, gap_stops, white_stops}
+use Rattle.pnm.proofs.GapLemmas.{number_reads, gap_stops, white_stops}
 
 -- the two bytes of a magic that is read
 pub read_parts : (a b : ℕ) → (a == 80 && (b == 53 || b == 54)) ≡ true → (a ≡ 80) × ((b ≡ 53) ⊎ (b ≡ 54))
@@ -80,10 +80,10 @@ module _ (bytes : List ℕ) (cfa : Option Cfa) (q : Picture) (magic top white : 
       let b = number_none (length bytes) (width_gap bytes) 16384 BadHeader TooLarge width.opens width.starts (rw w w_some) (rw w wide) in
       let d = number_none (length bytes) (height_gap bytes) 16384 BadHeader TooLarge height.opens height.starts (rw h h_some) (rw h high) in
       let least : (nat_lt q.w (least_side q.kind) || nat_lt q.h (least_side q.kind)) ≡ false =
-          or_from (nat_lt q.w (least_side q.kind)) (nat_lt q.h (least_side q.kind)) (le-ltb q.w (least_side q.kind) wide_enough) (le-ltb q.h (least_side q.kind) high_enough) in
+      or_from (nat_lt q.w (least_side q.kind)) (nat_lt q.h (least_side q.kind)) (le-ltb q.w (least_side q.kind) wide_enough) (le-ltb q.h (least_side q.kind) high_enough) in
       let e : sides_fault (length bytes) (kind_of bytes cfa) (number_of (width_gap bytes)) (number_of (height_gap bytes)) (length (number_text (width_gap bytes))) (length (number_text (height_gap bytes))) ≡ None =
-          sides_none (length bytes) (kind_of bytes cfa) (number_of (width_gap bytes)) (number_of (height_gap bytes)) (length (number_text (width_gap bytes))) (length (number_text (height_gap bytes)))
-          (rw (w, h) pixels) (rw (kind_is, w, h) least) in
+      sides_none (length bytes) (kind_of bytes cfa) (number_of (width_gap bytes)) (number_of (height_gap bytes)) (length (number_text (width_gap bytes))) (length (number_text (height_gap bytes)))
+      (rw (w, h) pixels) (rw (kind_is, w, h) least) in
       let f = number_none (length bytes) (greatest_gap bytes) 65535 BadMaxval BadMaxval greatest.opens greatest.starts (rw t some) (rw t small) in
       let need : raster_len bytes ≡ length raster = rw (second, w, h, t) (sym len) in
       let tail : raster_text bytes ≡ raster ++ rest = ap (drop 1) last in

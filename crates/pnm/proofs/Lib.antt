@@ -6,3 +6,4 @@ pub mod SampleLemmas
 pub mod ValueLemmas
 pub mod WordLemmas
 pub mod WrittenLemmas
+pub mod FrontLemmas

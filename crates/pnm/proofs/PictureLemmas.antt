@@ -1,15 +1,15 @@
 -- pictures and what reading makes of their bytes
-use Rattle.std.proofs.Common.{◌≡◌, ℕ, ◌+◌, ◌-◌, ◌*◌, ◌<◌, ◌≤◌, ◌⊎◌, min, Option, None, Some, List, ◌∷◌, ◌++◌, length, take, drop, slice_index, refl, sym, ap, ◌∙◌, subst, arith}
+use Rattle.std.proofs.Common.{◌≡◌, ℕ, ◌+◌, ◌-◌, ◌*◌, ◌<◌, min, Option, Some, List, ◌∷◌, ◌++◌, length, drop, slice_index, refl, sym, ap, ◌∙◌, subst, arith}
 use Rattle.std.proofs.lemmas.List.{take-append-drop}
 use Rattle.std.proofs.lemmas.Nat.{mul-add-lt}
 use Rattle.px.specs.declared.kind.Cfa.{Cfa}
 use Rattle.px.specs.declared.kind.PlaneKind.{PlaneKind}
-use Rattle.px.specs.Area.{HasPixel, whole_of}
+use Rattle.px.specs.Area.{whole_of}
 use Rattle.px.specs.Kind.{channels}
 use Rattle.px.specs.Cut.{Cut, IsCutOf, picture_of, value_at}
 use Rattle.px.specs.Picture.{Picture}
 use Rattle.pnm.specs.declared.fault.PnmFault.{PnmFault}
-use Rattle.pnm.specs.Fault.{fault_of, front_digits, greatest_gap, height_gap, last_white, number_of, number_text, raster_len, raster_text, width_gap}
+use Rattle.pnm.specs.Fault.{fault_of, front_digits, greatest_gap, height_gap, last_white, number_text, raster_len, raster_text, width_gap}
 use Rattle.pnm.specs.Grammar.{IsNumeral}
 use Rattle.pnm.specs.Header.{IsHeader}
 use Rattle.pnm.specs.Pnm.{IsPicture}
@@ -43,7 +43,7 @@ picture_from_header bytes cfa kind w h samples top raster values header made =
     let second_digits = front_digits (number_text (height_gap bytes)) in
     let third_digits = front_digits (number_text (greatest_gap bytes)) in
     let tail : raster_text bytes ≡ raster ++ drop (raster_len bytes) (raster_text bytes) =
-        sym (take-append-drop (raster_len bytes) (raster_text bytes)) ∙ ap (λ t. t ++ drop (raster_len bytes) (raster_text bytes)) (sym header.raster_is) in
+    sym (take-append-drop (raster_len bytes) (raster_text bytes)) ∙ ap (λ t. t ++ drop (raster_len bytes) (raster_text bytes)) (sym header.raster_is) in
     record {
       magic = slice_index bytes 1;
       first_gap = one.gap;

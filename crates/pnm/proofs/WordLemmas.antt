@@ -1,9 +1,9 @@
 -- words of a text, byte by byte
-use Rattle.std.proofs.Common.{◌≡◌, ℕ, suc, ◌+◌, ◌-◌, ◌*◌, ◌<◌, ◌≤◌, ◌==◌, not, min, Bool, true, false, List, [], ◌∷◌, ◌++◌, length, take, drop, slice_index, if◌then◌else◌, refl, sym, ap, ◌∙◌, ⊎_elim, append_assoc, arith}
+use Rattle.std.proofs.Common.{◌≡◌, ℕ, ◌+◌, ◌-◌, ◌*◌, ◌<◌, ◌≤◌, not, min, Bool, true, false, List, [], ◌∷◌, ◌++◌, length, take, drop, slice_index, refl, sym, ap, ◌∙◌, ⊎_elim, append_assoc, arith}
 use Rattle.std.proofs.lemmas.Bool.{cases_Bool}
 use Rattle.std.proofs.lemmas.List.{append-nil, drop_more, drop_all, take_more}
 use Rattle.pnm.specs.Fault.{after_digits, after_filling, front_digits}
-use Rattle.pnm.specs.Grammar.{is_decimal, is_line_end, is_white, number_from}
+use Rattle.pnm.specs.Grammar.{is_decimal, is_line_end, number_from}
 
 -- a byte within a comment
 pub in_comment : (b : ℕ) (t : List ℕ) → after_filling true (b ∷ t) ≡ after_filling (not (is_line_end b)) t

@@ -3,3 +3,4 @@ pub mod Grammar
 pub mod Header
 pub mod Pnm
 pub mod Samples
+pub mod Texts

@@ -1,4 +1,8 @@
+ghost use Rattle.std.specs.Prelude.{Some};
+ghost use Rattle.pnm.specs.Texts.{kind_text};
+
 use std::alloc::AllocError;
+use std::fmt;
 use thiserror::Error;
 
 /// Why bytes aren't a picture.
@@ -20,6 +24,22 @@ pub enum PnmKind {
     Short,
 }
 
+impl fmt::Display for PnmKind {
+    ghost output = { λ kind. Some (kind_text kind) };
+
+    fn fmt<W: fmt::Write>(&self, f: &mut fmt::Formatter<W>) -> fmt::Result {
+        f.write_str(match self {
+            PnmKind::BadMagic => "bad magic",
+            PnmKind::OtherForm => "other form",
+            PnmKind::BadHeader => "bad header",
+            PnmKind::TooLarge => "too large",
+            PnmKind::TooSmall => "too small",
+            PnmKind::BadMaxval => "bad maxval",
+            PnmKind::Short => "short",
+        })
+    }
+}
+
 /// What was refused, and at which byte, counted from 0.
 #[derive(Clone, Copy, Debug, PartialEq, Eq)]
 pub struct PnmFault {
@@ -30,7 +50,7 @@ pub struct PnmFault {
 /// Why nothing was read.
 #[derive(Debug, Drop, Error)]
 pub enum PnmEnd {
-    #[error("the picture is refused: {0:?}")]
+    #[error("source refused at byte {}: {}", .0.place, .0.kind)]
     Fault(PnmFault),
     #[error("out of memory")]
     Memory,

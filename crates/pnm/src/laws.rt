@@ -11,5 +11,4 @@ ghost use Rattle.pnm.specs.Pnm.{IsPicture, written, whitened};
 pub fn written_is_read()
     ensures { (q : Picture) (cfa : Option Cfa) (rest : List ℕ) → q.kind ≡ Rgb → 0 < q.w → q.w ≤ 16384 → 0 < q.h → q.h ≤ 16384 → q.w * q.h ≤ 25165824
         → IsPicture (written q Sixteen ++ rest) cfa (whitened q) }
-{
-}
+{}

@@ -4,9 +4,9 @@ ghost use Rattle.px.specs.Picture.{Picture};
 ghost use Rattle.pnm.specs.Fault.{fault_of};
 ghost use Rattle.pnm.specs.Pnm.{IsPicture, IsRefusal};
 
+use crate::PnmEnd;
 use crate::decoding::decode;
 use crate::header::header_of;
-use crate::PnmEnd;
 use px::{Cfa, Plane, Region};
 use std::alloc::Global;
 

@@ -5,7 +5,7 @@ use Rattle.px.specs.declared.kind.PlaneKind.TheVariants.{Rgb}
 use Rattle.px.specs.Area.{Area}
 use Rattle.px.specs.Cut.{Cut, value_at}
 use Rattle.px.specs.Kind.{channels}
-use Rattle.px.specs.Means.{part, sum_in, count_in, mean_in}
+use Rattle.px.specs.Means.{part, sum_in}
 use Rattle.px.specs.Sums.{total}
 use Rattle.px.proofs.PixelLemmas.{IsOwnRow, own_value}
 use Rattle.px.proofs.SumLemmas.{total_same, total_shift, total_ones, total_swap}

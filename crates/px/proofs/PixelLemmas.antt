@@ -1,8 +1,8 @@
 -- the values of single pixels
-use Rattle.std.proofs.Common.{◌≡◌, ℕ, zero, suc, ◌+◌, ◌-◌, ◌*◌, ◌<◌, ◌≤◌, List, [], ◌∷◌, slice_index, refl, sym, ap, ◌∙◌, subst, arith}
+use Rattle.std.proofs.Common.{◌≡◌, ℕ, zero, suc, ◌+◌, ◌-◌, ◌*◌, ◌<◌, ◌≤◌, List, slice_index, refl, sym, ap, ◌∙◌, subst, arith}
 use Rattle.px.specs.declared.kind.PlaneKind.{PlaneKind}
 use Rattle.px.specs.declared.kind.PlaneKind.TheVariants.{Mosaic, Rgb}
-use Rattle.px.specs.Area.{Area, HasPixel}
+use Rattle.px.specs.Area.{HasPixel}
 use Rattle.px.specs.Copied.{IsCopied}
 use Rattle.px.specs.Cut.{Cut, IsCutOf, place, value_at}
 use Rattle.px.specs.Kind.{channels}

@@ -6,7 +6,7 @@ use Rattle.px.specs.declared.kind.PlaneKind.{PlaneKind}
 use Rattle.px.specs.declared.kind.PlaneKind.TheVariants.{Mosaic, Rgb}
 use Rattle.px.specs.Area.{Area, HasPixel}
 use Rattle.px.specs.Kind.{channels}
-use Rattle.px.specs.Means.{only, part, sum_in, count_in, mean_in}
+use Rattle.px.specs.Means.{only, part, count_in, mean_in}
 use Rattle.px.specs.Mosaic.{channel_at}
 use Rattle.px.specs.Sums.{total, area_total}
 

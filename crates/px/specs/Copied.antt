@@ -1,8 +1,7 @@
 -- planes cut out of planes
-use Rattle.std.specs.Prelude.{◌≡◌, ℕ, ◌<◌, ◌≤◌, List, slice_index}
-use Rattle.px.specs.Area.{Area, HasPixel}
-use Rattle.px.specs.Cut.{Cut, IsCutOf, value_at}
-use Rattle.px.specs.Picture.{Picture, pixel_by}
+use Rattle.std.specs.Prelude.{◌≡◌, ℕ, ◌≤◌, List, slice_index}
+use Rattle.px.specs.Cut.{Cut, value_at}
+use Rattle.px.specs.Picture.{pixel_by}
 
 -- the values of a pixel of the plane
 pub record IsCopied (p : Cut) (x y : ℕ) (r : List ℕ) : Type 0 where

@@ -1,5 +1,3 @@
-ghost use Rattle.std.specs.Prelude.{◌<◌, IfOk};
-
 use crate::fault::RowsEnd;
 use std::alloc::Global;
 
@@ -10,7 +8,6 @@ pub(crate) struct Failing {
     pub(crate) puts: Vec<u64>,
     pub(crate) says: Vec<u64>,
     pub(crate) chunk: usize,
-    ghost some: { 0 < chunk },
 }
 
 // No call fails, and a read gives up to 65,536 bytes.
@@ -35,13 +32,11 @@ fn numbers(alloc: Global, list: &str) -> Result<Vec<u64>, RowsEnd> {
     Ok(numbers)
 }
 
-// How many bytes a read gives at most, which is one or more.
-fn chunk_of(digits: &str) -> Result<usize, RowsEnd>
-    ensures { IfOk result (λ chunk. 0 < chunk) }
-{
+// How many bytes a read gives at most.
+fn chunk_of(digits: &str) -> Result<usize, RowsEnd> {
     match digits.parse::<usize>() {
-        Ok(chunk) if chunk > 0 => Ok(chunk),
-        _ => Err(RowsEnd::Form),
+        Ok(chunk) => Ok(chunk),
+        Err(_) => Err(RowsEnd::Form),
     }
 }
 

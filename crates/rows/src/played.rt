@@ -54,6 +54,9 @@ pub(crate) fn play<R: Threads + Sync>(
         says,
         chunk,
     } = failing_of(alloc, row.failing)?;
+    if chunk == 0 {
+        return Err(RowsEnd::Form);
+    }
     let mut shelf = MemoryShelf::new(alloc, chunk, reads, puts);
     place_all(alloc, values, row.files, &mut shelf)?;
     let words = words_of(alloc, row.words)?;

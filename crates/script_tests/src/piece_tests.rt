@@ -1,10 +1,12 @@
-ghost use Rattle.std.specs.Prelude.{◌≡◌, ◌∷◌, [], ◌<◌, IfOk};
+ghost use Rattle.std.specs.Prelude.{◌≡◌, ◌∷◌, [], ◌<◌, IfOk, None};
+ghost use Rattle.params.specs.declared.settings.Params.TheVariants.{Exposure as exposure_params};
 ghost use Rattle.px.specs.declared.kind.PlaneKind.TheVariants.{Rgb};
 ghost use Rattle.px.specs.Area.{whole_of};
 ghost use Rattle.pipe_nodes.specs.Active.{IsFit};
 
+use modules_raw::Source;
 use params::{Exposure, Params};
-use pipe_nodes::{Active, Piece, Prefix, Source, Staged, Steps, commit};
+use pipe_nodes::{Active, Piece, Prefix, Staged, Steps, commit};
 use px::{Plane, PlaneKind, Region};
 use std::alloc::{AllocError, Global};
 use std::marker::Brand;
@@ -14,15 +16,18 @@ use std::test::Fail;
 use std::thread::Threads;
 
 // Takes 1000 away and doubles.
-fn doubling() -> Active {
-    let params = Params::Exposure(Exposure {
-        black: 1000,
-        gain: 8192,
-        stops: 0,
-    });
+const DOUBLING: Exposure = Exposure {
+    black: 1000,
+    gain: 8192,
+    stops: 0,
+};
+
+fn active_of(exposure: Exposure) -> Active
+    ensures { result ≡ record { instance = 0; params = exposure_params exposure; blend = None } }
+{
     Active {
         instance: 0,
-        params,
+        params: Params::Exposure(exposure),
         blend: None,
     }
 }
@@ -49,22 +54,23 @@ fn committed<L: Ledger>(alloc: Global, active: &Active, blank: Blank) -> Result<
 // That values of the type may be shared between threads.
 fn cross_threads<T: Send + Sync>(_: &T) {}
 
-// The second pixel of what the instance makes of two pixels, where a run can apply it.
+// The second pixel of what the exposure makes of two pixels, where its numbers are within their ranges.
 fn second_pixel<R: Threads + Sync>(
     rt: &R,
     alloc: Global,
-    active: &Active,
+    exposure: Exposure,
 ) -> Result<Option<Plane>, AllocError> {
+    let active = active_of(exposure);
     let Some(region) = Region::new(1, 0, 1, 1) else {
         return Ok(None);
     };
-    if !active.is_fit() || !active.is_built() {
+    if !active.is_fit() {
         return Ok(None);
     }
     let source = Arc::new(alloc, Source::of(two_pixels(alloc)?))?;
     let prefix = Prefix::start(alloc, 0)?;
     let stage = Staged::of(alloc, prefix, two_pixels(alloc)?, source)?;
-    let piece = committed::<Brand>(alloc, active, Blank::new(1))?;
+    let piece = committed::<Brand>(alloc, &active, Blank::new(1))?;
     cross_threads(&stage);
     cross_threads(&piece);
     Ok(Some(piece.render(rt, alloc, &stage, region)?))
@@ -73,8 +79,8 @@ fn second_pixel<R: Threads + Sync>(
 // 600000 - 1000, doubled, is above the greatest value.
 #[test]
 fn a_piece_renders_a_region_of_its_output(rt: HostRuntime) -> Result<(), Fail> {
-    let made = second_pixel(&rt, rt.alloc(), &doubling())?;
-    let plane = made.expect(&rt, "a built piece");
+    let made = second_pixel(&rt, rt.alloc(), DOUBLING)?;
+    let plane = made.expect(&rt, "an exposure within its ranges");
     assert_eq!(rt; plane.values(), [1000, 2000, 1_048_575].as_slice());
     Ok(())
 }
@@ -82,7 +88,7 @@ fn a_piece_renders_a_region_of_its_output(rt: HostRuntime) -> Result<(), Fail> {
 #[test]
 fn a_shared_prefix_is_equal_and_a_longer_one_is_not(rt: HostRuntime) -> Result<(), Fail> {
     let alloc = rt.alloc();
-    let active = doubling();
+    let active = active_of(DOUBLING);
     if !active.is_fit() {
         return Ok(());
     }

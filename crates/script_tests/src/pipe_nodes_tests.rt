@@ -1,6 +1,11 @@
+ghost use Rattle.std.specs.Prelude.{◌↔◌, IsTrue};
+ghost use Rattle.std.specs.List.{All};
+ghost use Rattle.pipe_nodes.specs.Active.{IsPlain};
+
 use history::{Edit, History, Item};
+use modules_raw::Source;
 use params::{Exposure, Module, Params};
-use pipe_nodes::{Show, Source, Window, actives, are_built, uncached};
+use pipe_nodes::{Active, Show, Window, actives, uncached};
 use px::{Depth, Plane, PlaneKind, Region};
 use std::alloc::{AllocError, Global};
 use std::test::Fail;
@@ -47,7 +52,13 @@ fn one_pixel(alloc: Global) -> Result<Source, AllocError> {
     Ok(Source::of(plane))
 }
 
-// The picture of the pixel that the run makes, where all that is active is built.
+fn are_plain(actives: &[Active]) -> bool
+    ensures { IsTrue result ↔ All IsPlain actives.now }
+{
+    actives.iter().all(|active| active.is_plain())
+}
+
+// The picture of the pixel that the run makes, where nothing that is active has a blend.
 fn shown<R: Threads + Sync>(
     rt: &R,
     alloc: Global,
@@ -58,7 +69,7 @@ fn shown<R: Threads + Sync>(
         window: Window::Whole,
         depth: Depth::Eight,
     };
-    if !are_built(&actives(alloc, history)?) {
+    if !are_plain(&actives(alloc, history)?) {
         return Ok(None);
     }
     let source = one_pixel(alloc)?;
@@ -69,7 +80,7 @@ fn shown<R: Threads + Sync>(
 #[test]
 fn a_second_exposure_works_on_clamped_values(rt: HostRuntime) -> Result<(), Fail> {
     let history = two_exposures(rt.alloc())?;
-    let plane = shown(&rt, rt.alloc(), &history)?.expect(&rt, "a built run");
+    let plane = shown(&rt, rt.alloc(), &history)?.expect(&rt, "a run without blends");
     assert_eq!(rt; plane.values(), [100, 1100, 77_100].as_slice());
     Ok(())
 }

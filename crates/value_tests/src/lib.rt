@@ -19,6 +19,8 @@ mod modules_colour_tests;
 #[cfg(test)]
 mod modules_raw_tests;
 #[cfg(test)]
+mod outside_tests;
+#[cfg(test)]
 mod params_tests;
 #[cfg(test)]
 mod pnm_tests;

@@ -23,7 +23,9 @@ fn a_mosaic_of_nine_pixels_is_made_rgb(rt: HostRuntime) -> Result<(), Fail> {
         ]
         .as_slice()
     );
-    let corner = input.cut(rt.alloc(), Region::new(1, 1, 2, 2).ok_or("a region")?)?;
+    let part = Region::new(1, 1, 2, 2).ok_or("a region")?;
+    let values = vec![in rt.alloc(); 50, 60, 80, 90]?;
+    let corner = Plane::from_rows(PlaneKind::Mosaic(Cfa::Rggb), 3, 3, part, values);
     let last = Region::new(2, 2, 1, 1).ok_or("a region")?;
     let made = demosaic(&rt, rt.alloc(), &corner, last)?;
     assert_eq!(rt; made.values(), [90, 70, 50].as_slice());
@@ -46,7 +48,10 @@ fn levels_are_means_by_colour(rt: HostRuntime) -> Result<(), Fail> {
     assert!(rt; first.sides() == (3, 2));
     assert_eq!(rt;
         first.values(),
-        [0, 5, 11, 2, 7, 13, 4, 8, 13, 20, 15, 11, 22, 17, 13, 24, 18, 13].as_slice()
+        [
+            0, 5, 11, 2, 7, 13, 4, 8, 13, 20, 15, 11, 22, 17, 13, 24, 18, 13
+        ]
+        .as_slice()
     );
     let second = level(&rt, rt.alloc(), &source, 2)?;
     assert!(rt; second.sides() == (2, 1));

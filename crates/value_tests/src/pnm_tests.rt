@@ -32,7 +32,10 @@ fn a_picture_that_is_cut_short_is_refused(rt: HostRuntime) -> Result<(), Fail> {
         (13, PnmKind::Short, 13),
     ] {
         let front = bytes.get(..len).ok_or("a front")?;
-        assert!(rt; fault(rt.alloc(), front, None) == Some((kind, place)), "{len} bytes");
+        assert!(rt;
+            fault(rt.alloc(), front, None) == Some((kind, place)),
+            "{len} bytes"
+        );
     }
     assert!(rt; fault(rt.alloc(), bytes, None).is_none());
     Ok(())
@@ -53,7 +56,10 @@ fn the_first_fault_of_a_header_is_told(rt: HostRuntime) {
         (b"P6\n1 1\n65536x", PnmKind::BadMaxval, 7),
         (b"P6\n1 1\n255#\n", PnmKind::BadHeader, 10),
     ] {
-        assert!(rt; fault(rt.alloc(), bytes, None) == Some((kind, place)), "{bytes:?}");
+        assert!(rt;
+            fault(rt.alloc(), bytes, None) == Some((kind, place)),
+            "{bytes:?}"
+        );
     }
 }
 
@@ -74,7 +80,10 @@ fn samples_of_two_bytes_are_scaled_by_the_greatest(rt: HostRuntime) -> Result<()
     let grey = read(rt.alloc(), bytes, None)?;
     assert_eq!(rt;
         grey.values(),
-        [65_535, 65_535, 65_535, 65_535, 65_535, 65_535, 32_767, 32_767, 32_767].as_slice()
+        [
+            65_535, 65_535, 65_535, 65_535, 65_535, 65_535, 32_767, 32_767, 32_767
+        ]
+        .as_slice()
     );
     assert_eq!(rt;
         write(rt.alloc(), &grey, Depth::Eight)?.as_slice(),

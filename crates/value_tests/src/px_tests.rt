@@ -1,8 +1,6 @@
 ghost use Rattle.std.specs.Prelude.{ℕ, ◌≤◌, slice_index};
 
-use px::{
-    ByValue, Cfa, Plane, PlaneKind, Region, clamp_top, mul_floor, paint_in_turn, repaint,
-};
+use px::{ByValue, Cfa, Plane, PlaneKind, Region, clamp_top, mul_floor, paint_in_turn, repaint};
 use std::test::Fail;
 
 #[test]

@@ -3,9 +3,7 @@ use undo_stack::Undo;
 
 // The depth 2 lets the first of four values go.
 #[test]
-fn undo_goes_back_as_far_as_the_depth_and_redo_forward_again(
-    rt: HostRuntime,
-) -> Result<(), Fail> {
+fn undo_goes_back_as_far_as_the_depth_and_redo_forward_again(rt: HostRuntime) -> Result<(), Fail> {
     let mut value = Undo::new(rt.alloc(), 1u32, 2)?;
     value.change(2);
     value.change(3);

@@ -5,7 +5,7 @@ use Rattle.px.specs.Cut.{picture_of}
 use Rattle.pnm.specs.Pnm.{written}
 use Rattle.edit_steps.specs.declared.settings.Settings.{Settings}
 use Rattle.edit_steps.specs.Script.{changes, history_at}
-use Rattle.pipe_nodes.specs.Active.{IsBuilt}
+use Rattle.pipe_nodes.specs.Active.{IsPlain}
 use Rattle.pipe_nodes.specs.Actives.{actives_of}
 use Rattle.pipe_nodes.specs.Whole.{whole}
 use Rattle.dev_core.proofs.BuiltLemmas.{built_at}
@@ -15,7 +15,7 @@ use Rattle.develop_session.proofs.develop.develop_bytes.Goals as goal
 pub shown_bytes-requires-clause-built : goal.shown_bytes-requires-clause-built
 shown_bytes-requires-clause-built g c =
     let script = c.args.script.now in
-    λ κs outlived. All-same IsBuilt (actives_of c.in_ok-history.history) (actives_of (history_at script c.changes.result)) (ap actives_of c.in_ok-history.ensures) (built_at script c.changes.result c.requires)
+    λ κs outlived. All-same IsPlain (actives_of c.in_ok-history.history) (actives_of (history_at script c.changes.result)) (ap actives_of c.in_ok-history.ensures) (built_at script c.changes.result c.requires)
 
 pub returns : goal.returns
 returns g c =

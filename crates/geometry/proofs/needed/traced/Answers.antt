@@ -42,7 +42,7 @@ returns c =
     let sides : ℕ × ℕ = (c.args.w, c.args.h) in
     let out : Area = record { x = c.out.inside.x; y = c.out.inside.y; w = c.out.inside.w; h = c.out.inside.h } in
     let inside = subst (λ a. IsIn a (sides_after p sides).0 (sides_after p sides).1) (sym c.out.view_is) c.requires.inside in
-    let area = traced_area p sides out c.requires.within c.requires.sides c.out.invariant inside c.requires.one in
+    let area = traced_area p sides out c.requires.within c.requires.sides c.out.invariant.wide c.out.invariant.high inside c.requires.one in
     let made : c.between.result ≡ needed p sides out = c.between.ensures ∙ needed-between p sides out c.trace_of-trace.result c.of-first.result c.of-last.result c.out.invariant inside c.trace_of-trace.ensures c.of-first.ensures c.of-last.ensures area in
     record {
       region = made ∙ ap (needed p sides) c.out.view_is;

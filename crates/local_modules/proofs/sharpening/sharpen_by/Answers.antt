@@ -1,12 +1,12 @@
 use Rattle.std.proofs.Common.{◌≡◌, sym, ap, ◌∙◌, subst, arith}
 use Rattle.std.proofs.lemmas.Result.{IfOk-weaker}
 use Rattle.px.specs.Area.{Area, HasPixel, Covers}
-use Rattle.px.specs.Cut.{Cut}
+use Rattle.px.specs.Cut.{Cut, value_at}
 use Rattle.local_modules.proofs.SharpLemmas.{grown_covers, sharpened_cut, sharpened_small}
 use Rattle.local_modules.proofs.sharpening.sharpen_by.Goals as goal
 
 pub paint-requires-clause-asks : goal.paint-requires-clause-asks
-paint-requires-clause-asks g c x y inside =
+paint-requires-clause-asks g c κs within x y inside =
     let input = c.args.input.now in
     let covers = grown_covers c.args.r input.w input.h input.area c.args.region c.requires.inside c.requires.covers in
     let shaped = c.in_ok-blurred.ensures.shaped in
@@ -14,7 +14,8 @@ paint-requires-clause-asks g c x y inside =
     (here, c.requires.rgb, subst (λ a. HasPixel a x y) (sym (ap (λ (t : Cut). t.area) shaped)) inside, ap (λ (t : Cut). t.kind) shaped, c.requires.amount)
 
 pub paint-requires-clause-gives : goal.paint-requires-clause-gives
-paint-requires-clause-gives g c x y r inside is i = rw is (sharpened_small _ _ _ i)
+paint-requires-clause-gives g c κs within x y r inside is i =
+    rw is (sharpened_small c.args.amount (value_at c.args.input.now x y) (value_at c.in_ok-blurred.blurred x y) i)
 
 pub returns-clause-cut : goal.returns-clause-cut
 returns-clause-cut g c =

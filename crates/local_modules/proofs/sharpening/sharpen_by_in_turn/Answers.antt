@@ -1,7 +1,7 @@
 use Rattle.std.proofs.Common.{◌≡◌, sym, ap, ◌∙◌, subst, arith}
 use Rattle.std.proofs.lemmas.Result.{IfOk-weaker}
 use Rattle.px.specs.Area.{Area, HasPixel, Covers}
-use Rattle.px.specs.Cut.{Cut}
+use Rattle.px.specs.Cut.{Cut, value_at}
 use Rattle.local_modules.proofs.SharpLemmas.{grown_covers, sharpened_cut, sharpened_small}
 use Rattle.local_modules.proofs.sharpening.sharpen_by_in_turn.Goals as goal
 
@@ -14,7 +14,8 @@ paint_in_turn-requires-clause-asks c x y inside =
     (here, c.requires.rgb, subst (λ a. HasPixel a x y) (sym (ap (λ (t : Cut). t.area) shaped)) inside, ap (λ (t : Cut). t.kind) shaped, c.requires.amount)
 
 pub paint_in_turn-requires-clause-gives : goal.paint_in_turn-requires-clause-gives
-paint_in_turn-requires-clause-gives c x y r inside is i = rw is (sharpened_small _ _ _ i)
+paint_in_turn-requires-clause-gives c x y r inside is i =
+    rw is (sharpened_small c.args.amount (value_at c.args.input.now x y) (value_at c.in_ok-blurred.blurred x y) i)
 
 pub returns-clause-cut : goal.returns-clause-cut
 returns-clause-cut c =

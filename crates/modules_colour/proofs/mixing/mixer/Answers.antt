@@ -1,16 +1,17 @@
 use Rattle.std.proofs.Common.{ap, refl, arith}
 use Rattle.std.proofs.lemmas.Result.{IfOk-weaker}
+use Rattle.px.specs.Cut.{value_at}
 use Rattle.px.proofs.MadeLemmas.{cut_of_made}
 use Rattle.modules_colour.specs.Mixing.{mixed, mixed_picture}
 use Rattle.modules_colour.proofs.MixLemmas.{matrix_of, mixed_tops}
 use Rattle.modules_colour.proofs.mixing.mixer.Goals as goal
 
 pub paint-requires-clause-asks : goal.paint-requires-clause-asks
-paint-requires-clause-asks g c x y inside =
+paint-requires-clause-asks g c κs within x y inside =
     (record { left = omega arith; right = omega arith; top = omega arith; bottom = omega arith }, c.requires.rgb, matrix_of c.args.params.now c.requires.within)
 
 pub paint-requires-clause-gives : goal.paint-requires-clause-gives
-paint-requires-clause-gives g c x y r inside is i = rw is (mixed_tops _ _ i)
+paint-requires-clause-gives g c κs within x y r inside is i = rw is (mixed_tops c.args.params.now (value_at c.args.input.now x y) i)
 
 pub returns-clause-cut : goal.returns-clause-cut
 returns-clause-cut g c =

@@ -1,5 +1,6 @@
 use Rattle.std.proofs.Common.{ap, refl, arith}
 use Rattle.std.proofs.lemmas.Result.{IfOk-weaker}
+use Rattle.px.specs.Cut.{value_at}
 use Rattle.px.proofs.MadeLemmas.{cut_of_made}
 use Rattle.modules_colour.specs.Mixing.{mixed, mixed_picture}
 use Rattle.modules_colour.proofs.MixLemmas.{matrix_of, mixed_tops}
@@ -10,7 +11,7 @@ paint_in_turn-requires-clause-asks c x y inside =
     (record { left = omega arith; right = omega arith; top = omega arith; bottom = omega arith }, c.requires.rgb, matrix_of c.args.params.now c.requires.within)
 
 pub paint_in_turn-requires-clause-gives : goal.paint_in_turn-requires-clause-gives
-paint_in_turn-requires-clause-gives c x y r inside is i = rw is (mixed_tops _ _ i)
+paint_in_turn-requires-clause-gives c x y r inside is i = rw is (mixed_tops c.args.params.now (value_at c.args.input.now x y) i)
 
 pub returns-clause-cut : goal.returns-clause-cut
 returns-clause-cut c =

@@ -1,4 +1,4 @@
-use Rattle.std.proofs.Common.{◌≡◌, ℕ, ◌+◌, ◌-◌, ◌≤◌, min, sym, ap, ◌∙◌, arith}
+use Rattle.std.proofs.Common.{◌≡◌, ◌+◌, ◌-◌, min, sym, ap, ◌∙◌, arith}
 use Rattle.px.specs.declared.kind.PlaneKind.TheVariants.{Mosaic}
 use Rattle.px.specs.Area.{Area}
 use Rattle.px.specs.Cut.{value_at}
@@ -21,6 +21,6 @@ pub returns-clause-value : goal.returns-clause-value
 returns-clause-value c =
     let at = value_at c.args.input.now in
     c.box_mean.ensures.mean
-      ∙ (ap (λ k. mean_in k at (channel c.args.c) c.window_of.result) c.requires.mosaic
-      ∙ (ap (λ (a : Area). mean_in (Mosaic c.args.cfa) at (channel c.args.c) a) c.window_of.ensures.region
-      ∙ sym (otherwise (channel_at c.args.cfa c.args.x c.args.y) (channel c.args.c) _ _ (λ e. c.if-channel.false (c.channel.ensures.channel ∙ (e ∙ sym c.channel-2.ensures.channel))))))
+    ∙ (ap (λ k. mean_in k at (channel c.args.c) c.window_of.result) c.requires.mosaic
+    ∙ (ap (λ (a : Area). mean_in (Mosaic c.args.cfa) at (channel c.args.c) a) c.window_of.ensures.region
+    ∙ sym (otherwise (channel_at c.args.cfa c.args.x c.args.y) (channel c.args.c) _ _ (λ e. c.if-channel.false (c.channel.ensures.channel ∙ (e ∙ sym c.channel-2.ensures.channel))))))

@@ -9,7 +9,7 @@ use Rattle.modules_raw.proofs.LevelLemmas.{level_of_cut}
 use Rattle.modules_raw.proofs.levelling.level.Goals as goal
 
 pub paint-requires-clause-asks : goal.paint-requires-clause-asks
-paint-requires-clause-asks g c x y inside =
+paint-requires-clause-asks g c _ _ x y inside =
     let plane = c.plane-plane.result.now in
     let size = c.block_size-size.ensures.size in
     let sides = c.sides-w.ensures.sides in
@@ -19,9 +19,9 @@ paint-requires-clause-asks g c x y inside =
     let left : c.whole-whole.result.x ≡ 0 = ap (λ (a : Area). a.x) area in
     let top : c.whole-whole.result.y ≡ 0 = ap (λ (a : Area). a.y) area in
     let wide : c.whole-whole.result.w ≡ blocks c.block_size-size.result plane.w =
-        ap (λ (a : Area). a.w) area ∙ (ap (λ s. s.0) levels ∙ (ap (λ s. level_side s.0 c.args.l) sides ∙ ap (λ s. blocks s plane.w) (sym size))) in
+    ap (λ (a : Area). a.w) area ∙ (ap (λ s. s.0) levels ∙ (ap (λ s. level_side s.0 c.args.l) sides ∙ ap (λ s. blocks s plane.w) (sym size))) in
     let high : c.whole-whole.result.h ≡ blocks c.block_size-size.result plane.h =
-        ap (λ (a : Area). a.h) area ∙ (ap (λ s. s.1) levels ∙ (ap (λ s. level_side s.1 c.args.l) sides ∙ ap (λ s. blocks s plane.h) (sym size))) in
+    ap (λ (a : Area). a.h) area ∙ (ap (λ s. s.1) levels ∙ (ap (λ s. level_side s.1 c.args.l) sides ∙ ap (λ s. blocks s plane.h) (sym size))) in
     let column : x < blocks c.block_size-size.result plane.w = rw (← wide) (omega (arith, inside.right, left)) in
     let row : y < blocks c.block_size-size.result plane.h = rw (← high) (omega (arith, inside.bottom, top)) in
     (subst IsWhole (sym c.plane-plane.ensures.plane) c.plane-plane.ensures.whole, (two, (c.block_size-size.ensures.small, (column, row))))

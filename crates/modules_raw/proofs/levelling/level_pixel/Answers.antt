@@ -1,5 +1,4 @@
-use Rattle.std.proofs.Common.{◌≡◌, ◌≤◌, ap, arith}
-use Rattle.px.specs.Kind.{least_side}
+use Rattle.std.proofs.Common.{ap, arith}
 use Rattle.modules_raw.proofs.CountLemmas.{each_colour, least_two}
 use Rattle.modules_raw.proofs.levelling.level_pixel.Goals as goal
 

@@ -1,4 +1,4 @@
-use Rattle.std.proofs.Common.{ℕ, ◌<◌, ◌≤◌}
+use Rattle.std.proofs.Common.{ℕ, ◌<◌}
 use Rattle.modules_raw.specs.Levels.{Fills}
 use Rattle.modules_raw.proofs.levels.level_of_thumbnail.Given as goal
 

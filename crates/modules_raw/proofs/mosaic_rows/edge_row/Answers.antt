@@ -1,4 +1,4 @@
-use Rattle.std.proofs.Common.{◌≡◌, ◌*◌, refl, arith}
+use Rattle.std.proofs.Common.{◌*◌, refl, arith}
 use Rattle.px.proofs.RowLemmas.{row_more, adds_three}
 use Rattle.modules_raw.proofs.mosaic_rows.edge_row.Goals as goal
 

@@ -26,7 +26,7 @@ loop-j-preserved c =
     let right = rw f at c.pixel_of_rows-right.ensures in
     let all : (c.loop-j.j + 1) * 2 ≡ c.loop-j.j * 2 + 1 + 1 = omega arith in
     rw all (two_more _ _ _ (c.loop-j.j * 2) (c.loop-j.j * 6) (c.loop-j.j * 6 + 3) c.loop-j.row c.pixel_of_rows-left.result c.pixel_of_rows-right.result
-      c.loop-j.invariant left left.top right right.top (omega arith) (omega arith) (omega arith))
+    c.loop-j.invariant left left.top right right.top (omega arith) (omega arith) (omega arith))
 
 pub returns : goal.returns
 returns c =

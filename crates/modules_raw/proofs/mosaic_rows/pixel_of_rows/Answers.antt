@@ -1,4 +1,4 @@
-use Rattle.std.proofs.Common.{◌≡◌, ◌+◌, ◌-◌, ◌∙◌, arith}
+use Rattle.std.proofs.Common.{◌+◌, ◌-◌, ◌∙◌, arith}
 use Rattle.modules_raw.proofs.WindowLemmas.{inner_here, moved}
 use Rattle.modules_raw.proofs.mosaic_rows.pixel_of_rows.Goals as goal
 

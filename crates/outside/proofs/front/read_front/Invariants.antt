@@ -10,6 +10,7 @@ invariant-loop-front g l = record {
   fits : vec_len l.front ≤ l.limit;
   unchanged : g.S.Shelf.files l.shelf ≡ g.S.Shelf.files l.fn.shelf;
   front : IfSome (g.S.Shelf.files l.fn.shelf) (λ fs. IsFront (held fs l.name) l.front.items);
+  quiet : g.S.Shelf.read_faults l.shelf l.name ≡ g.S.Shelf.read_faults l.fn.shelf l.name;
   reads : NoneFalls (g.S.Shelf.read_faults l.fn.shelf) (g.S.Shelf.read_faults l.shelf);
   puts : NoneFalls (g.S.Shelf.put_faults l.fn.shelf) (g.S.Shelf.put_faults l.shelf);
 }

@@ -3,6 +3,7 @@ use Rattle.std.specs.List.{filter_map}
 use Rattle.std.specs.Option.{option_to_list}
 use Rattle.pipe_nodes.specs.Actives.{active_at}
 use Rattle.pipe_nodes.proofs.ActivesLemmas.{gathered_more, gathered-fit}
+use Rattle.pipe_nodes.proofs.KindLemmas.{gathered-run}
 use Rattle.pipe_nodes.proofs.gather.actives.Goals as goal
 
 pub loop-i-preserved : goal.loop-i-preserved
@@ -20,3 +21,8 @@ pub returns-clause-fit : goal.returns-clause-fit
 returns-clause-fit c =
     gathered-fit c.args.history.now c.loop-i.actives.items c.items.result.now c.order-order.result.now c.end.result c.loop-i.i
     c.items.ensures.history c.items.ensures.value c.order-order.ensures c.end.ensures (omega arith) c.loop-i.invariant.items
+
+pub returns-clause-run : goal.returns-clause-run
+returns-clause-run c =
+    gathered-run c.args.history.now c.loop-i.actives.items c.items.result.now c.order-order.result.now c.end.result c.loop-i.i
+    c.len.ensures.order c.items.ensures.value c.order-order.ensures c.end.ensures (omega arith) c.loop-i.invariant.items

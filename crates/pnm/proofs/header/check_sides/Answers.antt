@@ -1,4 +1,4 @@
-use Rattle.std.proofs.Common.{◌≡◌, nat_lt, Some, sym, ap, ◌∙◌}
+use Rattle.std.proofs.Common.{nat_lt, Some, sym, ap, ◌∙◌}
 use Rattle.std.proofs.lemmas.Bool.{ltb-false, or_parts}
 use Rattle.px.specs.Kind.{least_side}
 use Rattle.pnm.specs.declared.fault.PnmFault.{PnmFault}

@@ -12,7 +12,7 @@ returns-then-is_other c =
 pub returns-then-not-is_read : goal.returns-then-not-is_read
 returns-then-not-is_read c =
     magic_bad c.args.bytes.now (tests_of other_of _ _ _ _ _ c.byte_or_zero-first.ensures c.byte_or_zero-second.ensures (sym c.is_other.ensures ∙ c.if-is_other.false))
-      (tests_of read_of _ _ _ _ _ c.byte_or_zero-first.ensures c.byte_or_zero-second.ensures (sym c.is_read.ensures ∙ c.if-not-is_read.true))
+    (tests_of read_of _ _ _ _ _ c.byte_or_zero-first.ensures c.byte_or_zero-second.ensures (sym c.is_read.ensures ∙ c.if-not-is_read.true))
     ∙ ap (λ (f : PnmFault). Some f) (sym c.fault_at-then-not-is_read.ensures)
 
 pub returns : goal.returns

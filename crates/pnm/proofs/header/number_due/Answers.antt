@@ -1,4 +1,4 @@
-use Rattle.std.proofs.Common.{◌≡◌, ◌-◌, ◌<◌, ◌≤◌, min, Some, true, false, length, drop, length-drop, sym, ap, ◌∙◌, arith}
+use Rattle.std.proofs.Common.{◌≡◌, ◌-◌, min, Some, true, length, length-drop, sym, ap, ◌∙◌, arith}
 use Rattle.pnm.specs.declared.fault.PnmFault.{PnmFault}
 use Rattle.pnm.specs.declared.fault.PnmKind.TheVariants.{BadHeader}
 use Rattle.pnm.specs.Fault.{after_digits, begins, front_digits, number_of, number_text}
@@ -15,7 +15,7 @@ pub returns-then-not-begins_number : goal.returns-then-not-begins_number
 returns-then-not-begins_number c =
     let at : c.skip-from.result.now ≡ number_text c.args.text.now = c.skip-from.ensures ∙ c.filling_len.ensures.rest in
     number_starts c.args.total c.args.text.now c.args.most c.args.zero c.args.large (sym c.begins_gap.ensures ∙ c.if-not-begins_gap.false)
-      (ap (begins is_decimal) (sym at) ∙ (sym c.begins_number.ensures ∙ c.if-not-begins_number.true))
+    (ap (begins is_decimal) (sym at) ∙ (sym c.begins_number.ensures ∙ c.if-not-begins_number.true))
     ∙ (ap (λ t. told BadHeader c.args.total (length t)) (sym at) ∙ ap (λ (f : PnmFault). Some f) (sym c.fault_at-then-not-begins_number.ensures))
 
 pub returns-then-value-eq0 : goal.returns-then-value-eq0
@@ -23,7 +23,7 @@ returns-then-value-eq0 c =
     let at : c.skip-from.result.now ≡ number_text c.args.text.now = c.skip-from.ensures ∙ c.filling_len.ensures.rest in
     let number : c.front_number-value.result.0 ≡ min (number_of c.args.text.now) 1000000 = c.front_number-value.ensures.number ∙ ap (λ t. min (number_from 0 (front_digits t)) 1000000) at in
     number_zero c.args.total c.args.text.now c.args.most c.args.zero c.args.large (sym c.begins_gap.ensures ∙ c.if-not-begins_gap.false)
-      (ap (begins is_decimal) (sym at) ∙ (sym c.begins_number.ensures ∙ c.if-not-begins_number.false)) (omega arith)
+    (ap (begins is_decimal) (sym at) ∙ (sym c.begins_number.ensures ∙ c.if-not-begins_number.false)) (omega arith)
     ∙ (ap (λ t. told c.args.zero c.args.total (length t)) (sym at) ∙ ap (λ (f : PnmFault). Some f) (sym c.fault_at-then-value-eq0.ensures))
 
 pub returns-then-value-most : goal.returns-then-value-most
@@ -31,7 +31,7 @@ returns-then-value-most c =
     let at : c.skip-from.result.now ≡ number_text c.args.text.now = c.skip-from.ensures ∙ c.filling_len.ensures.rest in
     let number : c.front_number-value.result.0 ≡ min (number_of c.args.text.now) 1000000 = c.front_number-value.ensures.number ∙ ap (λ t. min (number_from 0 (front_digits t)) 1000000) at in
     number_large c.args.total c.args.text.now c.args.most c.args.zero c.args.large (sym c.begins_gap.ensures ∙ c.if-not-begins_gap.false)
-      (ap (begins is_decimal) (sym at) ∙ (sym c.begins_number.ensures ∙ c.if-not-begins_number.false)) (omega arith) (omega arith)
+    (ap (begins is_decimal) (sym at) ∙ (sym c.begins_number.ensures ∙ c.if-not-begins_number.false)) (omega arith) (omega arith)
     ∙ (ap (λ t. told c.args.large c.args.total (length t)) (sym at) ∙ ap (λ (f : PnmFault). Some f) (sym c.fault_at-then-value-most.ensures))
 
 pub returns : goal.returns

@@ -1,4 +1,4 @@
-use Rattle.std.proofs.Common.{◌≡◌, ◌*◌, ap, ◌∙◌, arith}
+use Rattle.std.proofs.Common.{arith}
 use Rattle.pnm.proofs.PictureLemmas.{cut_of_read, none_of_fault, picture_from_header}
 use Rattle.pnm.proofs.ValueLemmas.{values_top}
 use Rattle.pnm.proofs.reading.read.Goals as goal

@@ -1,4 +1,4 @@
-use Rattle.std.proofs.Common.{◌≡◌, not, ap, ◌∙◌, sym, subst, refl}
+use Rattle.std.proofs.Common.{not, ap, ◌∙◌, sym}
 use Rattle.pnm.specs.Fault.{after_filling}
 use Rattle.pnm.proofs.WordLemmas.{in_comment}
 use Rattle.pnm.proofs.words.behind_byte.Goals as goal

@@ -1,4 +1,4 @@
-use Rattle.std.proofs.Common.{◌≡◌, ℕ, ◌+◌, ◌/◌, ap, ◌∙◌, arith}
+use Rattle.std.proofs.Common.{◌≡◌, ◌/◌, ap, ◌∙◌, arith}
 use Rattle.px.specs.declared.painting.Rows.{Rows}
 use Rattle.px.specs.Cut.{value_at}
 use Rattle.px.specs.Means.{part, sum_in, count_in}

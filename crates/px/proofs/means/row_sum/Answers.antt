@@ -1,4 +1,4 @@
-use Rattle.std.proofs.Common.{◌≡◌, sym, ◌∙◌, arith}
+use Rattle.std.proofs.Common.{sym, ◌∙◌, arith}
 use Rattle.px.proofs.MeanLemmas.{row_of_rgb, count_of_rgb}
 use Rattle.px.proofs.means.row_sum.Goals as goal
 

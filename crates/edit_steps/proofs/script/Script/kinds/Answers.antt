@@ -1,4 +1,4 @@
-use Rattle.std.proofs.Common.{◌≡◌, ◌∙◌, List, ap, arith}
+use Rattle.std.proofs.Common.{◌∙◌, List, ap, arith}
 use Rattle.std.specs.Prelude.{slice_range, map}
 use Rattle.edit_steps.specs.declared.change.Change.{Change}
 use Rattle.edit_steps.specs.Changes.{kinds_in}

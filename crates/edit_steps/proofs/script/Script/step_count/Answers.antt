@@ -1,5 +1,5 @@
-use Rattle.std.proofs.Common.{◌≡◌, ◌≤◌, ◌∙◌, length, ap, arith}
-use Rattle.edit_steps.specs.Script.{Recipe, recipe}
+use Rattle.std.proofs.Common.{length, ap, arith}
+use Rattle.edit_steps.specs.Script.{Recipe}
 use Rattle.edit_steps.proofs.FaultLemmas.{steps-few}
 use Rattle.edit_steps.proofs.script.Script.step_count.Goals as goal
 

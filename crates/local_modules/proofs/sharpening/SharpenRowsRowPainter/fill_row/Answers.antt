@@ -13,5 +13,5 @@ returns c =
       row = sharpened_row s.amount s.input.now s.blurred.now c.args.x c.args.y c.args.n c.row.result.now c.row-2.result.now c.sharpen_row.new.row
           first.1 (omega (arith, first.0.left)) first.3 (omega (arith, first.2.left))
           (λ i below. c.row.ensures.values i (omega (arith, size))) (λ i below. c.row-2.ensures.values i (omega (arith, soft_size)))
-          (c.sharpen_row.auto.row ∙ c.requires.len) (λ i below. c.sharpen_row.ensures i (omega (arith, c.requires.len)));
+          (c.sharpen_row.auto.row ∙ c.requires.len) (λ i below. c.sharpen_row.ensures.value i (omega (arith, c.requires.len)));
     }

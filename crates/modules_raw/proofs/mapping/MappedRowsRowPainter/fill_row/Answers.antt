@@ -1,4 +1,4 @@
-use Rattle.std.proofs.Common.{◌≡◌, sym, ◌∙◌, length, arith}
+use Rattle.std.proofs.Common.{sym, ◌∙◌, arith}
 use Rattle.modules_raw.proofs.MappedLemmas.{mapped_row, made_of_mosaic, made_of_rgb}
 use Rattle.modules_raw.proofs.mapping.MappedRowsRowPainter.fill_row.Goals as goal
 

@@ -1,4 +1,4 @@
-use Rattle.std.proofs.Common.{◌≡◌, ◌+◌, ◌*◌, ◌<◌, slice_index, sym, ap, ◌∙◌, subst, arith}
+use Rattle.std.proofs.Common.{sym, subst, arith}
 use Rattle.px.specs.Copied.{IsCopied}
 use Rattle.px.specs.Kind.{channels}
 use Rattle.px.specs.Painted.{IsRow}

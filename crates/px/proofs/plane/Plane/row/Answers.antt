@@ -1,4 +1,4 @@
-use Rattle.std.proofs.Common.{◌≡◌, ◌+◌, ◌-◌, ◌*◌, ◌≤◌, ap, ◌∙◌, length, arith}
+use Rattle.std.proofs.Common.{◌≡◌, ◌-◌, ◌*◌, ap, ◌∙◌, length, arith}
 use Rattle.px.specs.Kind.{channels}
 use Rattle.px.proofs.RowLemmas.{run_fits}
 use Rattle.px.proofs.plane.Plane.row.Goals as goal
