@@ -30,3 +30,5 @@ mod px_tests;
 mod turn_lock_tests;
 #[cfg(test)]
 mod undo_stack_tests;
+#[cfg(test)]
+mod wide_exposure_tests;
