@@ -13,10 +13,6 @@ use Rattle.develop_session.specs.Words.{Command}
 abbrev pub developed : Recipe → Picture → Picture
 developed script q = picture_at q script (changes script)
 
--- the sides of a picture: columns, then rows
-abbrev pub sides_of : Picture → ℕ × ℕ
-sides_of q = (q.w, q.h)
-
 -- the bytes that the command writes, at the depth of the script's settings
 abbrev pub out_bytes : Recipe → Picture → List ℕ
 out_bytes script q = written (developed script q) script.settings.depth
@@ -29,7 +25,8 @@ pub record IsDeveloped (c : Command) (fs : Files) (w h : ℕ) (new : Option File
   pub script : HasScript c.script fs recipe
   pub built : IsBuiltScript recipe
   pub source : HasSource c.source recipe.settings.cfa fs picture
-  pub sides : (w, h) ≡ sides_of (developed recipe picture)
+  pub wide : (developed recipe picture).w ≡ w
+  pub high : (developed recipe picture).h ≡ h
   pub put : new ≡ Some (with_file c.out (out_bytes recipe picture) fs)
 
 -- the same, but that OUT has its old state or a prefix of those bytes

@@ -4,7 +4,7 @@ ghost use Rattle.px.specs.Cut.{picture_of};
 ghost use Rattle.dev_core.specs.Built.{IsBuiltScript};
 ghost use Rattle.outside.specs.Faults.{Rose};
 ghost use Rattle.publish.specs.Files.{RoseAt};
-ghost use Rattle.develop_session.specs.Develop.{developed, out_bytes, sides_of};
+ghost use Rattle.develop_session.specs.Develop.{developed, out_bytes};
 ghost use Rattle.develop_session.specs.Failures.{SaysLine};
 ghost use Rattle.develop_session.specs.Answers.{Answers, Develops, Refuses};
 ghost use Rattle.develop_session.specs.Names.{command};
@@ -30,8 +30,9 @@ fn develop_bytes<R: Threads + Sync>(
     source: &Source,
 ) -> Result<(u32, u32, Vec<u8>), AllocError>
     requires { IsBuiltScript script.now }
-    ensures sides { IfOk result (λ made. (made.0, made.1.0) ≡ sides_of (developed script.now (picture_of source.now))) }
-    ensures bytes { IfOk result (λ made. made.1.1.items ≡ out_bytes script.now (picture_of source.now)) }
+    ensures wide { IfOk result (λ made. made.0 ≡ (developed script.now (picture_of source.now)).w) }
+    ensures high { IfOk result (λ made. made.1 ≡ (developed script.now (picture_of source.now)).h) }
+    ensures bytes { IfOk result (λ made. made.2.items ≡ out_bytes script.now (picture_of source.now)) }
 {
     let history = script.history_at(alloc, script.changes())?;
     shown_bytes(rt, alloc, source, &history, script.settings().depth)

@@ -6,3 +6,4 @@ pub mod RunLemmas
 pub mod PrefixLemmas
 pub mod StageLemmas
 pub mod SameLemmas
+pub mod ApplyLemmas

@@ -14,7 +14,7 @@ demosaiced-kind : (k : PlaneKind) (q : Picture) → q.kind ≡ k → (demosaiced
 demosaiced-kind (Mosaic cfa) q is = refl
 demosaiced-kind Rgb q is = is
 
-demosaiced-sides : (k : PlaneKind) (q : Picture) → ((demosaiced_by k q).w, (demosaiced_by k q).h) ≡ (q.w, q.h)
+demosaiced-sides : (k : PlaneKind) (q : Picture) → ◌≡◌ {A = ℕ × ℕ} ((demosaiced_by k q).w, (demosaiced_by k q).h) (q.w, q.h)
 demosaiced-sides (Mosaic cfa) q = refl
 demosaiced-sides Rgb q = refl
 
@@ -22,7 +22,7 @@ pub means-kind : (p : Params) (level : ℕ) (q : Picture) → (means p level q).
 means-kind params.Demosaic level q = demosaiced-kind q.kind q refl
 means-kind _ level q = refl
 
-pub means-sides : (p : Params) (level : ℕ) (q : Picture) → ((means p level q).w, (means p level q).h) ≡ sides_after p (q.w, q.h)
+pub means-sides : (p : Params) (level : ℕ) (q : Picture) → ◌≡◌ {A = ℕ × ℕ} ((means p level q).w, (means p level q).h) (sides_after p (q.w, q.h))
 means-sides params.Demosaic level q = demosaiced-sides q.kind q
 means-sides _ level q = refl
 

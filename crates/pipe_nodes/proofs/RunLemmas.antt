@@ -1,6 +1,6 @@
 -- Lemmas on runs over whole pictures.
 use Rattle.std.proofs.Common.{◌≡◌, ℕ, zero, suc, ◌+◌, ◌<◌, List, [], ◌∷◌, ◌++◌, length, get_or, take, refl, sym, ap, ◌∙◌, subst, arith, Option, Some, None}
-use Rattle.std.specs.Prelude.{unwrap_or}
+use Rattle.std.specs.Prelude.{unwrap_or, Result, Ok, Err, IfOk}
 use Rattle.std.specs.Option.{option_or}
 use Rattle.std.proofs.lemmas.List.{append_assoc, append-nil, take_more}
 use Rattle.params.specs.declared.settings.Params.{Params}
@@ -52,7 +52,7 @@ applied-kind p level input region made applied =
     (applied-cut p level input region made applied (picture_of input) (itself input)).kind ∙ means-kind p level (picture_of input)
 
 -- what is applied to the whole of a picture, for the whole of its output, makes such a whole again
-pub applied-whole : (p : Params) (level : ℕ) (input : Cut) (w h : ℕ) (made : Option Cut) → IsWhole input → (w, h) ≡ sides_after p (input.w, input.h) → IsApplied p level input (whole_of w h) made → IsWhole (unwrap_or made input)
+pub applied-whole : (p : Params) (level : ℕ) (input : Cut) (w h : ℕ) (made : Option Cut) → IsWhole input → ◌≡◌ {A = ℕ × ℕ} (w, h) (sides_after p (input.w, input.h)) → IsApplied p level input (whole_of w h) made → IsWhole (unwrap_or made input)
 applied-whole p level input w h None whole sides applied = whole
 applied-whole p level input w h (Some o) whole sides applied =
     let seen = applied.cut (picture_of input) (itself input) in
@@ -69,7 +69,7 @@ kind_behind-push k (x ∷ actives) a = kind_behind-push (kind_after k x.params) 
 
 -- the instance at a place takes what those before it make
 pub takes-at : (k : PlaneKind) (actives : List Active) (i : ℕ) (a : Active) → AllTake k actives → i < length actives → a ≡ get_or actives i a → Takes a.params (kind_behind k (take i actives))
-takes-at k [] i a takes within is = omega arith
+takes-at k [] i a takes within is = absurd (omega arith)
 takes-at k (x ∷ actives) zero a takes within is = subst (λ y. Takes y.params k) (sym is) takes.0
 takes-at k (x ∷ actives) (suc i) a takes within is = takes-at (kind_after k x.params) actives i a takes.1 (omega arith) is
 
@@ -102,3 +102,24 @@ stands-more level source actives k a made next joined within is plain joined_is 
       kind_is = kind_is ∙ ap (λ kind. kind_after kind a.params) stands.kind_is ∙ sym (kind_behind-push source.kind (take k actives) a);
       cut = λ q part. rendered q level (take k actives) a (unwrap_or next (unwrap_or made source)) plain (step (whole q level (take k actives)) (stands.cut q part));
     }))
+
+-- ---- the plane in the end
+
+-- what was made over the level, or else the level, or else the source
+pub both-stand : (made input joined : Option Cut) (source standing : Cut) → joined ≡ option_or made input → standing ≡ unwrap_or input source → unwrap_or joined source ≡ unwrap_or made standing
+both-stand made input joined source standing joined_is standing_is =
+    ap (λ o. unwrap_or o source) joined_is ∙ standing-more made input source ∙ ap (λ p. unwrap_or made p) (sym standing_is)
+
+-- a copy of a whole plane is whole, and of its kind
+pub copied-whole : (source o : Cut) → IsWhole source → o.area ≡ source.area → ((q : Picture) → IsCutOf q source → IsCutOf q o) → IsWhole o
+copied-whole source o whole area copy =
+    let seen = copy (picture_of source) (itself source) in
+    area ∙ whole ∙ ap (λ n. whole_of n source.h) (sym seen.wide) ∙ ap (λ n. whole_of o.w n) (sym seen.high)
+
+pub copied-kind : (source o : Cut) → ((q : Picture) → IsCutOf q source → IsCutOf q o) → o.kind ≡ source.kind
+copied-kind source o copy = (copy (picture_of source) (itself source)).kind
+
+-- two facts of a value, where there is one, put together
+pub ok_both : {T E : Type 0} (r : Result T E) (P Q S : T → Type 0) → ((x : T) → P x → Q x → S x) → IfOk r P → IfOk r Q → IfOk r S
+ok_both (Ok x) P Q S join p q = join x p q
+ok_both (Err e) P Q S join p q = tt

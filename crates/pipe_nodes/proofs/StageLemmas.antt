@@ -27,3 +27,11 @@ pub rendered-copied : (s : StagedSeen) (a : Active) (region : Area) (o : Cut) �
     → ((q : Picture) → IsCutOf q s.plane → IsCutOf q o) → IsCutOf (picture_after s a) o
 rendered-copied s a region o right plain applied copy =
     rendered (picture_of s.source) s.prefix.level s.prefix.actives a o plain (subst (λ q. IsCutOf q o) (sym (applied.same (picture_at s) right)) (copy (picture_at s) right))
+
+-- what was applied, in the words of the stage
+pub applied-as : (s : StagedSeen) (a piece : Active) (level : ℕ) (input : Cut) (region : Area) (made same : Option Cut) → piece ≡ a → level ≡ s.prefix.level → input ≡ s.plane → made ≡ same
+    → IsApplied piece.params level input region made → IsApplied a.params s.prefix.level s.plane region same
+applied-as s a piece level input region made same piece_is level_is input_is made_is applied =
+    subst (λ m. IsApplied a.params s.prefix.level s.plane region m) made_is
+    (subst (λ i. IsApplied a.params s.prefix.level i region made) input_is
+    (subst (λ l. IsApplied a.params l input region made) level_is (subst (λ p. IsApplied p.params level input region made) piece_is applied)))

@@ -1,12 +1,13 @@
 //! The modules at work: the one place that knows which kernel is whose.
-ghost use Rattle.std.specs.Prelude.{◌≡◌, ◌≤◌, IfOk};
+ghost use Rattle.std.specs.Prelude.{◌≡◌, ◌≤◌, IfOk, IfSome, IfNone};
 ghost use Rattle.params.specs.Ranges.{IsWithin};
 ghost use Rattle.params.specs.declared.settings.Params.TheVariants.{ToneCurve as curve_params};
 ghost use Rattle.px.specs.declared.kind.PlaneKind.TheVariants.{Rgb};
-ghost use Rattle.px.specs.Area.{Covers};
+ghost use Rattle.px.specs.Area.{Covers, IsIn, grown};
 ghost use Rattle.px.specs.Cut.{IsCutOf};
 ghost use Rattle.px.specs.Picture.{Picture};
 ghost use Rattle.modules_colour.specs.Curving.{curved_picture};
+ghost use Rattle.modules_raw.specs.Demosaic.{demosaiced_picture};
 ghost use Rattle.pipe_nodes.specs.Active.{IsFit, IsPlain};
 ghost use Rattle.pipe_nodes.specs.Applied.{CanApply, IsApplied};
 
@@ -35,6 +36,28 @@ fn tone_curve<R: Threads + Sync>(
     modules_colour::curve(rt, alloc, &table, input, region)
 }
 
+// A region of a mosaic made RGB, or none where the input is RGB already.
+fn demosaic<R: Threads + Sync>(
+    rt: &R,
+    alloc: Global,
+    input: &Plane,
+    region: Region,
+) -> Result<Option<Plane>, AllocError>
+    requires inside { IsIn region input.now.w input.now.h }
+    requires covers { Covers input.now.area (grown region 1 input.now.w input.now.h) }
+    ensures area { IfOk result (λ made. IfSome made (λ o. o.area ≡ region)) }
+    ensures cut { IfOk result (λ made. IfSome made (λ o. (q : Picture) → IsCutOf q input.now → IsCutOf (demosaiced_picture q) o)) }
+    ensures same { IfOk result (λ made. IfNone made (input.now.kind ≡ Rgb)) }
+{
+    match input.kind() {
+        PlaneKind::Mosaic(_) => {
+            let made = modules_raw::demosaic(rt, alloc, input, region)?;
+            Ok(Some(made))
+        }
+        PlaneKind::Rgb => Ok(None),
+    }
+}
+
 // A region of what the module instance makes of its input, a picture of that level, or none where it
 // leaves the input as it is.
 pub(crate) fn apply<R: Threads + Sync>(
@@ -51,32 +74,44 @@ pub(crate) fn apply<R: Threads + Sync>(
     requires can { CanApply active.now.params input.now region }
     ensures { IfOk result (IsApplied active.now.params level input.now region) }
 {
-    let made = match &active.params {
-        Params::RawPrepare(raw) => modules_raw::raw_prepare(rt, alloc, raw, input, region)?,
+    prove!(params::check(&active.params).is_ok());
+    match &active.params {
+        Params::RawPrepare(raw) => {
+            let made = modules_raw::raw_prepare(rt, alloc, raw, input, region)?;
+            Ok(Some(made))
+        }
         Params::Temperature(balance) => {
-            modules_raw::temperature(rt, alloc, balance, input, region)?
+            let made = modules_raw::temperature(rt, alloc, balance, input, region)?;
+            Ok(Some(made))
         }
-        Params::Demosaic => {
-            if input.kind() == PlaneKind::Rgb {
-                return Ok(None);
-            }
-            modules_raw::demosaic(rt, alloc, input, region)?
-        }
+        Params::Demosaic => demosaic(rt, alloc, input, region),
         Params::Orientation(turn) => {
-            modules_geometry::orientation(rt, alloc, turn, input, region)?
+            let made = modules_geometry::orientation(rt, alloc, turn, input, region)?;
+            Ok(Some(made))
         }
-        Params::Crop(crop) => modules_geometry::crop(rt, alloc, crop, input, region)?,
+        Params::Crop(crop) => {
+            let made = modules_geometry::crop(rt, alloc, crop, input, region)?;
+            Ok(Some(made))
+        }
         Params::Exposure(exposure) => {
-            modules_colour::exposure(rt, alloc, exposure, input, region)?
+            let made = modules_colour::exposure(rt, alloc, exposure, input, region)?;
+            Ok(Some(made))
         }
-        Params::ChannelMixer(mixer) => modules_colour::mixer(rt, alloc, mixer, input, region)?,
-        Params::ToneCurve(curve) => tone_curve(rt, alloc, curve, input, region)?,
+        Params::ChannelMixer(mixer) => {
+            let made = modules_colour::mixer(rt, alloc, mixer, input, region)?;
+            Ok(Some(made))
+        }
+        Params::ToneCurve(curve) => {
+            let made = tone_curve(rt, alloc, curve, input, region)?;
+            Ok(Some(made))
+        }
         Params::BoxBlur(blur) => {
-            local_modules::box_blur(rt, alloc, blur, level, input, region)?
+            let made = local_modules::box_blur(rt, alloc, blur, level, input, region)?;
+            Ok(Some(made))
         }
         Params::Sharpen(sharpen) => {
-            local_modules::sharpen(rt, alloc, sharpen, level, input, region)?
+            let made = local_modules::sharpen(rt, alloc, sharpen, level, input, region)?;
+            Ok(Some(made))
         }
-    };
-    Ok(Some(made))
+    }
 }

@@ -62,15 +62,15 @@ fn active_at(alloc: Global, items: &[Item], slot: Slot) -> Result<Option<Active>
     }
 }
 
-// Adds what is active, if anything is.
-fn keep(actives: &mut Vec<Active>, active: Option<Active>)
-    requires { vec_len actives.old < vec_capacity actives.old }
-    ensures items { actives.new.items ≡ actives.old.items ++ option_to_list active }
-    ensures len { vec_len actives.new ≤ vec_len actives.old + 1 }
-    ensures capacity { vec_capacity actives.new ≡ vec_capacity actives.old }
+// Puts one more into a list that has room for it, if there is one.
+fn keep<T: Drop>(list: &mut Vec<T>, one: Option<T>)
+    requires { vec_len list.old < vec_capacity list.old }
+    ensures items { list.new.items ≡ list.old.items ++ option_to_list one }
+    ensures len { vec_len list.new ≤ vec_len list.old + 1 }
+    ensures capacity { vec_capacity list.new ≡ vec_capacity list.old }
 {
-    if let Some(active) = active {
-        actives.push_reserved(active);
+    if let Some(one) = one {
+        list.push_reserved(one);
     }
 }
 

@@ -40,6 +40,7 @@ fn step<R: Threads + Sync>(
     ensures kind { IfOk result (λ made. (unwrap_or made input.now).kind ≡ kind_after input.now.kind active.now.params) }
     ensures cut { IfOk result (λ made. (q : Picture) → IsCutOf q input.now → IsCutOf (means active.now.params level q) (unwrap_or made input.now)) }
 {
+    prove!(params::check(&active.params).is_ok());
     let (w, h) = input.sides();
     let (columns, rows) = roi_out(&active.params, w, h);
     let region = Region::whole(columns, rows);
@@ -90,7 +91,8 @@ fn level_of<R: Threads + Sync>(
     source: &Source,
     l: u8,
 ) -> Result<Option<Plane>, AllocError>
-    requires { l ≤ 8 }
+    requires level { l ≤ 8 }
+    requires whole { IsWhole source.now }
     ensures whole { IfOk result (λ made. IsWhole (unwrap_or made source.now)) }
     ensures cut { IfOk result (λ made. (q : Picture) → IsCutOf q source.now → IsCutOf (input_of q l) (unwrap_or made source.now)) }
 {
@@ -98,6 +100,19 @@ fn level_of<R: Threads + Sync>(
         return Ok(None);
     }
     Ok(Some(level(rt, alloc, source, l)?))
+}
+
+// The plane that was made, or else a copy of the one before.
+fn owned(alloc: Global, made: Option<Plane>, before: &Plane) -> Result<Plane, AllocError>
+    requires whole { IsWhole before.now }
+    ensures whole { IfOk result (λ p. IsWhole (unwrap_or made before.now) → IsWhole p) }
+    ensures kind { IfOk result (λ p. p.kind ≡ (unwrap_or made before.now).kind) }
+    ensures cut { IfOk result (λ p. (q : Picture) → IsCutOf q (unwrap_or made before.now) → IsCutOf q p) }
+{
+    match made {
+        Some(plane) => Ok(plane),
+        None => before.cut(alloc, before.region()),
+    }
 }
 
 /// The picture that what is active in a history makes of a level of a source, as a whole RGB plane. So
@@ -118,18 +133,10 @@ pub fn uncached<R: Threads + Sync>(
 {
     prove!(matches!(&show.window, Window::Whole));
     let actives = actives(alloc, history)?;
+    let plane = source.plane();
     let input = level_of(rt, alloc, source, show.level)?;
-    let made = run_over(
-        rt,
-        alloc,
-        show.level,
-        standing(&input, source.plane()),
-        &actives,
-    )?;
-    match made.or(input) {
-        Some(plane) => Ok(plane),
-        None => source.plane().cut(alloc, source.plane().region()),
-    }
+    let made = run_over(rt, alloc, show.level, standing(&input, plane), &actives)?;
+    owned(alloc, made.or(input), plane)
 }
 
 /// The same picture, of level 0, as the bytes of a P6 of this depth, with its sides. The source is written
@@ -142,8 +149,9 @@ pub fn shown_bytes<R: Threads + Sync>(
     depth: Depth,
 ) -> Result<(u32, u32, Vec<u8>), AllocError>
     requires plain { All IsPlain (actives_of history.now) }
-    ensures sides { IfOk result (λ shown. (q : Picture) → IsCutOf q source.now → (shown.0, shown.1.0) ≡ ((whole q 0 (actives_of history.now)).w, (whole q 0 (actives_of history.now)).h)) }
-    ensures bytes { IfOk result (λ shown. (q : Picture) → IsCutOf q source.now → shown.1.1.items ≡ written (whole q 0 (actives_of history.now)) depth) }
+    ensures wide { IfOk result (λ shown. (q : Picture) → IsCutOf q source.now → shown.0 ≡ (whole q 0 (actives_of history.now)).w) }
+    ensures high { IfOk result (λ shown. (q : Picture) → IsCutOf q source.now → shown.1 ≡ (whole q 0 (actives_of history.now)).h) }
+    ensures bytes { IfOk result (λ shown. (q : Picture) → IsCutOf q source.now → shown.2.items ≡ written (whole q 0 (actives_of history.now)) depth) }
 {
     let actives = actives(alloc, history)?;
     let made = run_over(rt, alloc, 0, source.plane(), &actives)?;
