@@ -17,6 +17,8 @@ mod module_order_tests;
 #[cfg(test)]
 mod modules_colour_tests;
 #[cfg(test)]
+mod modules_geometry_tests;
+#[cfg(test)]
 mod modules_raw_tests;
 #[cfg(test)]
 mod outside_tests;
@@ -30,3 +32,5 @@ mod px_tests;
 mod turn_lock_tests;
 #[cfg(test)]
 mod undo_stack_tests;
+#[cfg(test)]
+mod wide_exposure_tests;
