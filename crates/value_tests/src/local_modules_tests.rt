@@ -17,9 +17,7 @@ fn a_blur_takes_the_mean_of_what_lies_in_the_picture(rt: HostRuntime) -> Result<
     let input = three_greys(alloc)?;
     let settings = BoxBlur { radius: 1 };
     let output = box_blur(&rt, alloc, &settings, 0, &input, Region::whole(3, 1))?;
-    let means = [
-        6168, 6168, 6168, 12_336, 12_336, 12_336, 18_504, 18_504, 18_504,
-    ];
+    let means = [6168, 6168, 6168, 12_336, 12_336, 12_336, 18_504, 18_504, 18_504];
     assert_eq!(rt; output.values(), means.as_slice());
     let again = box_blur_in_turn(alloc, &settings, 0, &input, Region::whole(3, 1))?;
     assert_eq!(rt; again.values(), output.values());
