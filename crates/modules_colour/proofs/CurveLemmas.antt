@@ -1,5 +1,5 @@
 -- pixels looked up in tables
-use Rattle.std.proofs.Common.{◌≡◌, ℕ, ◌<◌, ◌≤◌, Bool, true, false, ◌&&◌, List, [], ◌∷◌, slice_index, nat_eq, refl, sym, ap, ◌∙◌, subst, arith}
+use Rattle.std.proofs.Common.{◌≡◌, ℕ, ◌<◌, ◌≤◌, Bool, true, ◌&&◌, List, [], ◌∷◌, slice_index, nat_eq, refl, sym, ap, ◌∙◌, subst, arith}
 use Rattle.std.specs.Cmp.{unsigned_Decides, first_so, second_so}
 use Rattle.std.specs.Cmp.Lexicographic.{pointwise_decides}
 use Rattle.std.specs.Bool.{IsTrue}
@@ -47,5 +47,4 @@ same_node_is a b = (
 
 -- nodes that a test finds equal
 pub same_if : (xs ys : List (ℕ × ℕ)) (r : Bool) → r ≡ same_nodes xs ys → IsTrue r → xs ≡ ys
-same_if xs ys true e h = (pointwise_decides same_node_is xs ys).0 (sym e)
-same_if xs ys false e h = absurd h
+same_if xs ys r e h = (pointwise_decides same_node_is xs ys).0 (sym e ∙ h)

@@ -2,6 +2,8 @@
 use Rattle.std.proofs.Common.{◌≡◌, ℕ, zero, suc, ◌+◌, ◌*◌, ◌/◌, ◌%◌, ◌<◌, ◌≤◌, List, [], ◌∷◌, slice_index, min, refl, sym, ap, ◌∙◌, subst, arith}
 use Rattle.std.specs.Prelude.{ℤ, pos, negsuc, ◌+ℤ◌, ◌*ℤ◌, ◌≤ℤ◌, neg_ℤ, unsigned_abs}
 use Rattle.std.proofs.lemmas.Int.{ints}
+use mir.Syntax.{w32}
+use mir.Val.{of_z, to_z}
 use Rattle.std.proofs.lemmas.List.{get_or_past}
 use Rattle.params.specs.declared.settings.ChannelMixer.{ChannelMixer}
 use Rattle.params.specs.Each.{IsMixerWithin}
@@ -47,6 +49,10 @@ entry_small m within (suc (suc (suc (suc (suc (suc (suc zero))))))) = small_of _
 entry_small m within (suc (suc (suc (suc (suc (suc (suc (suc zero)))))))) = small_of _ within.kept.1.1.1.1.1.1.1.1.0
 entry_small m within (suc (suc (suc (suc (suc (suc (suc (suc (suc i))))))))) =
     let e : factor m (suc (suc (suc (suc (suc (suc (suc (suc (suc i))))))))) ≡ pos 0 = get_or_past m.rows (suc (suc (suc (suc (suc (suc (suc (suc (suc i))))))))) (pos 0) (omega (arith, within.sized)) in subst (λ (z : ℤ). unsigned_abs z ≤ 32768) (sym e) (omega arith)
+
+-- an entry is what a number of 32 bits holds of it
+pub held : (z : ℤ) → unsigned_abs z ≤ 32768 → to_z w32 (of_z w32 z) ≡ z
+held z small = omega (arith, ints)
 
 -- settings within their ranges have a matrix within its ranges
 pub matrix_of : (m : ChannelMixer) → IsMixerWithin m → IsMatrix m

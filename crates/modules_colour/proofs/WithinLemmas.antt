@@ -7,18 +7,17 @@ use Rattle.params.specs.Rules.{IsKept}
 use Rattle.params.specs.Seen.{wide_nodes}
 use Rattle.params.specs.Stated.{curve_entries}
 use Rattle.params.specs.declared.fault.Field.TheVariants.{Red, Green, Blue}
-use Rattle.params.specs.declared.rules.Entry.{Entry}
 use Rattle.params.specs.declared.settings.Params.TheVariants.{ToneCurve as curve_params}
 use Rattle.params.specs.declared.settings.ToneCurve.{ToneCurve}
 use Rattle.params.proofs.CurveLemmas.{curve_is}
 
-front_kept : (xs ys : List Entry) → AllByRecursion IsKept (xs ++ ys) → AllByRecursion IsKept xs
-front_kept [] ys h = tt
-front_kept (x ∷ xs) ys h = (h.0, front_kept xs ys h.1)
+front_kept : {A : Type 0} (P : A → Type 0) (xs ys : List A) → AllByRecursion P (xs ++ ys) → AllByRecursion P xs
+front_kept P [] ys h = tt
+front_kept P (x ∷ xs) ys h = (h.0, front_kept P xs ys h.1)
 
-back_kept : (xs ys : List Entry) → AllByRecursion IsKept (xs ++ ys) → AllByRecursion IsKept ys
-back_kept [] ys h = h
-back_kept (x ∷ xs) ys h = back_kept xs ys h.1
+back_kept : {A : Type 0} (P : A → Type 0) (xs ys : List A) → AllByRecursion P (xs ++ ys) → AllByRecursion P ys
+back_kept P [] ys h = h
+back_kept P (x ∷ xs) ys h = back_kept P xs ys h.1
 
 -- the curve of each channel
 pub record AreCurves (t : ToneCurve) : Type 0 where
@@ -31,9 +30,9 @@ curves_within t within =
     let red = curve_entries Red (wide_nodes t.red) in
     let green = curve_entries Green (wide_nodes t.green) in
     let blue = curve_entries Blue (wide_nodes t.blue) in
-    let later = back_kept red (green ++ (blue ++ [])) within.kept in
+    let later = back_kept IsKept red (green ++ (blue ++ [])) within.kept in
     record {
-      red = curve_is Red t.red (front_kept red (green ++ (blue ++ [])) within.kept);
-      green = curve_is Green t.green (front_kept green (blue ++ []) later);
-      blue = curve_is Blue t.blue (front_kept blue [] (back_kept green (blue ++ []) later));
+      red = curve_is Red t.red (front_kept IsKept red (green ++ (blue ++ [])) within.kept);
+      green = curve_is Green t.green (front_kept IsKept green (blue ++ []) later);
+      blue = curve_is Blue t.blue (front_kept IsKept blue [] (back_kept IsKept green (blue ++ []) later));
     }
