@@ -1,5 +1,5 @@
 -- Lemmas on the regions that modules need.
-use Rattle.std.proofs.Common.{◌≡◌, ℕ, ◌+◌, ◌-◌, ◌<◌, ◌≤◌, min, max, Bool, true, false, refl, sym, ap, ◌∙◌, subst, arith}
+use Rattle.std.proofs.Common.{◌≡◌, ℕ, ◌+◌, ◌-◌, ◌<◌, ◌≤◌, min, max, Bool, true, false, refl, sym, ◌∙◌, subst, arith}
 use Rattle.std.specs.Bool.{if◌then◌else◌}
 use Rattle.std.proofs.lemmas.Int.{ints}
 use Rattle.params.specs.declared.settings.BoxBlur.{BoxBlur}
@@ -10,11 +10,11 @@ use Rattle.params.specs.Ranges.{IsWithin}
 use Rattle.px.specs.declared.trace.Trace.{Trace}
 use Rattle.px.specs.Trace.{Traces, TracesWithin}
 use Rattle.px.specs.Area.{Area, HasPixel, IsArea, IsIn, Fits}
-use Rattle.geometry.specs.Sides.{IsPixelOf, kept_from, kept_to, kept_area, sides_after, mirrored, pixel_before}
+use Rattle.geometry.specs.Sides.{IsPixelOf, kept_from, sides_after, mirrored, pixel_before}
 use Rattle.geometry.specs.Behind.{IsTraceOf}
-use Rattle.geometry.specs.Needed.{first_of, swapped, flipped, between, needed, reach, LooksAt, Suffices}
+use Rattle.geometry.specs.Needed.{first_of, swapped, flipped, between, needed, reach, Suffices}
 use Rattle.geometry.proofs.TraceLemmas.{traces-within, traces-column, traces-row}
-use Rattle.geometry.proofs.PlaceLemmas.{KeepsPart, IsPart, is_part, keeps_part, pixel_before-inside}
+use Rattle.geometry.proofs.PlaceLemmas.{is_part, keeps_part, pixel_before-inside}
 
 pub reach-zero : (p : Params) → (p ≡ params.Demosaic → ⊥) → ((b : BoxBlur) → p ≡ params.BoxBlur b → ⊥) → ((s : Sharpen) → p ≡ params.Sharpen s → ⊥) → reach p ≡ 0
 reach-zero params.Demosaic plain unblurred unsharpened = absurd (plain refl)

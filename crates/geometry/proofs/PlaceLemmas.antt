@@ -1,5 +1,5 @@
 -- Lemmas on sides and places behind modules.
-use Rattle.std.proofs.Common.{◌≡◌, ℕ, ◌+◌, ◌-◌, ◌*◌, ◌/◌, ◌<◌, ◌≤◌, max, Bool, true, false, List, [], ◌∷◌, ◌++◌, refl, sym, ap, ◌∙◌, subst, arith}
+use Rattle.std.proofs.Common.{◌≡◌, ℕ, ◌+◌, ◌*◌, ◌<◌, ◌≤◌, Bool, true, false, List, [], ◌∷◌, ◌++◌, refl, ap, arith}
 use Rattle.std.specs.Bool.{if◌then◌else◌}
 use Rattle.std.proofs.Math.Nat.{mul-le-mul_left}
 use Rattle.std.proofs.lemmas.Int.{ints}
@@ -8,7 +8,7 @@ use Rattle.params.specs.declared.settings.Params.{Params}
 use Rattle.params.specs.declared.settings.Params.TheVariants as params
 use Rattle.params.specs.Each.{IsCropWithin}
 use Rattle.params.specs.Ranges.{IsWithin}
-use Rattle.px.specs.Area.{Area, Fits}
+use Rattle.px.specs.Area.{Fits}
 use Rattle.geometry.specs.Sides.{IsPixelOf, kept_from, kept_to, kept_area, sides_after, mirrored, pixel_before, sides_behind, place_behind}
 
 pub sides_behind-append : (before : List Params) (p : Params) (sides : ℕ × ℕ) → sides_behind (before ++ p ∷ []) sides ≡ sides_after p (sides_behind before sides)

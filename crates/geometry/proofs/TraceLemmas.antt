@@ -1,5 +1,5 @@
 -- Lemmas on traces.
-use Rattle.std.proofs.Common.{◌≡◌, ℕ, ◌+◌, ◌-◌, ◌<◌, ◌≤◌, ℤ, pos, negsuc, ◌+ℤ◌, ◌-ℤ◌, ◌≤ℤ◌, ◌<ℤ◌, Bool, true, false, not, List, [], ◌∷◌, ◌++◌, refl, sym, ap, ◌∙◌, subst, arith}
+use Rattle.std.proofs.Common.{◌≡◌, ℕ, ◌<◌, ℤ, pos, negsuc, Bool, true, false, not, List, [], ◌∷◌, ◌++◌, refl, sym, ap, ◌∙◌, subst, arith}
 use Rattle.std.specs.Bool.{if◌then◌else◌, beq}
 use mir.Syntax.{w32}
 use mir.Val.{to_z}
@@ -12,7 +12,7 @@ use Rattle.params.specs.Ranges.{IsWithin}
 use Rattle.px.specs.declared.trace.Trace.{Trace}
 use Rattle.px.specs.Area.{Fits}
 use Rattle.px.specs.Trace.{counted, column_before, row_before, Traces, TracesWithin, IsOnSide}
-use Rattle.geometry.specs.Sides.{IsPixelOf, kept_area, sides_after, mirrored, pixel_before, sides_behind, place_behind}
+use Rattle.geometry.specs.Sides.{IsPixelOf, kept_area, sides_after, mirrored, pixel_before, place_behind}
 use Rattle.geometry.specs.Behind.{straight, end_of, IsTraceOf, IsThrough, GeometrySeen, IsGeometry, IsBehind}
 use Rattle.geometry.proofs.PlaceLemmas.{sides_behind-append, place_behind-append, pixel_before-inside}
 

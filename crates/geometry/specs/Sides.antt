@@ -1,5 +1,5 @@
 -- What one module makes of sides, and from which pixel of its input a pixel comes.
-use Rattle.std.specs.Prelude.{ℕ, ◌+◌, ◌-◌, ◌*◌, ◌/◌, ◌<◌, max, Bool, true, false, if◌then◌else◌, List, [], ◌∷◌}
+use Rattle.std.specs.Prelude.{ℕ, ◌+◌, ◌-◌, ◌*◌, ◌/◌, ◌<◌, max, Bool, if◌then◌else◌, List, [], ◌∷◌}
 use Rattle.params.specs.declared.settings.Crop.{Crop}
 use Rattle.params.specs.declared.settings.Params.{Params}
 use Rattle.params.specs.declared.settings.Params.TheVariants as params

@@ -1,24 +1,24 @@
 -- Lemmas on pictures whose pixels are moved.
-use Rattle.std.proofs.Common.{◌≡◌, ℕ, ◌+◌, ◌-◌, ◌<◌, ◌≤◌, ℤ, pos, Bool, false, List, [], ◌∷◌, slice_index, refl, sym, ap, ◌∙◌, subst, arith}
+use Rattle.std.proofs.Common.{◌≡◌, ℕ, ◌+◌, ◌-◌, ◌<◌, ◌≤◌, ℤ, Bool, false, List, [], ◌∷◌, slice_index, sym, ap, ◌∙◌, subst, arith}
 use Rattle.std.proofs.Math.Nat.{add-zero}
 use Rattle.std.proofs.lemmas.Int.{ints}
 use Rattle.params.specs.declared.settings.Params.{Params}
 use Rattle.params.specs.Ranges.{IsWithin}
 use Rattle.px.specs.declared.kind.PlaneKind.TheVariants.{Rgb}
 use Rattle.px.specs.declared.trace.Trace.{Trace}
-use Rattle.px.specs.Area.{Area, HasPixel, IsIn, Covers, Fits}
+use Rattle.px.specs.Area.{Area, HasPixel, Covers, Fits}
 use Rattle.px.specs.Copied.{IsCopied}
 use Rattle.px.specs.Cut.{Cut, IsPlane, IsCutOf, rgb_at, value_at}
 use Rattle.px.specs.Kind.{channels}
 use Rattle.px.specs.Painted.{AsksIn, IsPainted, IsRow}
 use Rattle.px.specs.Picture.{Picture, pixel_by, rgb_of}
-use Rattle.px.specs.Trace.{Traces, TracesWithin}
+use Rattle.px.specs.Trace.{Traces}
 use Rattle.px.proofs.PaintedLemmas.{cut_of_rgb, pixel_of_part}
 use Rattle.px.proofs.PixelLemmas.{IsOwnRow, copied_row}
 use Rattle.geometry.specs.Behind.{GeometrySeen, IsBehind, IsTraceOf}
 use Rattle.geometry.specs.Needed.{needed, reach}
 use Rattle.geometry.specs.Sides.{IsPixelOf, sides_after, pixel_before}
-use Rattle.geometry.proofs.NeededLemmas.{IsTracedArea, traced_area, corner-within, pixel-of}
+use Rattle.geometry.proofs.NeededLemmas.{traced_area, corner-within, pixel-of}
 use Rattle.geometry.proofs.TraceLemmas.{traces-column, traces-row}
 use Rattle.modules_geometry.specs.Moved.{CanMove, IsHeld, IsMoved, moved_picture}
 

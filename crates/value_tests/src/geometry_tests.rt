@@ -44,6 +44,7 @@ fn a_crop_keeps_one_pixel_at_least(rt: HostRuntime) {
     assert!(rt; roi_out(&crop, 3, 1) == (1, 1));
     let mut kept = Geometry::start(3, 1, 0);
     kept.push(&crop);
+    assert!(rt; kept.out_size() == (1, 1));
     assert!(rt; kept.place(0, 0) == (2, 0));
 }
 

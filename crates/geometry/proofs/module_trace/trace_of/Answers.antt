@@ -1,4 +1,4 @@
-use Rattle.std.proofs.Common.{◌≡◌, ℕ, sym, subst}
+use Rattle.std.proofs.Common.{sym, subst}
 use Rattle.px.specs.declared.trace.Trace.{Trace}
 use Rattle.geometry.specs.Behind.{IsTraceOf}
 use Rattle.geometry.proofs.TraceLemmas.{kept-traces, straight-traces}

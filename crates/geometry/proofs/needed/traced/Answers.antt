@@ -3,7 +3,7 @@ use Rattle.px.specs.Area.{Area, IsIn}
 use Rattle.geometry.specs.Sides.{sides_after}
 use Rattle.geometry.specs.Needed.{needed, Suffices}
 use Rattle.geometry.proofs.TraceLemmas.{traced-below}
-use Rattle.geometry.proofs.NeededLemmas.{corner-within, first-pixel, last-pixel, needed-between, traced_area, traced-suffices, IsTracedArea}
+use Rattle.geometry.proofs.NeededLemmas.{corner-within, first-pixel, last-pixel, needed-between, traced_area, traced-suffices}
 use Rattle.geometry.proofs.needed.traced.Goals as goal
 
 pub of-first-requires : goal.of-first-requires

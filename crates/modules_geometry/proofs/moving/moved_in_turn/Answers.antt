@@ -1,5 +1,5 @@
 use Rattle.std.proofs.lemmas.Result.{IfOk-weaker}
-use Rattle.modules_geometry.proofs.MovedLemmas.{asks-held, cut-of-moved}
+use Rattle.modules_geometry.proofs.MovedLemmas.{cut-of-moved}
 use Rattle.modules_geometry.proofs.moving.moved_in_turn.Goals as goal
 
 pub returns-clause-cut : goal.returns-clause-cut

@@ -1,4 +1,4 @@
-use Rattle.std.proofs.Common.{◌≡◌, ℕ, [], ◌∷◌, sym, subst, ◌∙◌}
+use Rattle.std.proofs.Common.{ℕ, [], ◌∷◌, sym, subst, ◌∙◌}
 use Rattle.px.specs.declared.trace.Trace.{Trace}
 use Rattle.geometry.specs.Behind.{IsBehind, IsTraceOf}
 use Rattle.modules_geometry.proofs.MovedLemmas.{trace-of-one}

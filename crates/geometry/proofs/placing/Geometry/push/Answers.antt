@@ -1,5 +1,4 @@
-use Rattle.std.proofs.Common.{ℕ, List, ◌++◌, ◌∷◌, [], sym, subst}
-use Rattle.params.specs.declared.settings.Params.{Params}
+use Rattle.std.proofs.Common.{sym, subst}
 use Rattle.geometry.specs.Behind.{GeometrySeen, IsBehind}
 use Rattle.geometry.proofs.TraceLemmas.{push-inside, push-behind, near-within, far-within}
 use Rattle.geometry.proofs.placing.Geometry.push.Goals as goal
