@@ -23,7 +23,7 @@ def built(work):
     os.makedirs(os.path.join(folder, "src"))
     shutil.copy(os.path.join(here, "main.rt.txt"), os.path.join(folder, "src", "main.rt"))
     open(os.path.join(folder, "stdin"), "w").close()
-    log = subprocess.run(["rt", "run"], cwd=folder, capture_output=True, text=True)
+    log = subprocess.run([os.environ.get("RT", "rt"), "run"], cwd=folder, capture_output=True, text=True)
     program = os.path.join(folder, "out", "raw_times")
     if not os.path.exists(program):
         sys.exit(log.stdout[-3000:] + log.stderr[-1000:])

@@ -1,11 +1,10 @@
 -- histories of scripts whose pictures a run can make
-use Rattle.std.proofs.Common.{◌≡◌, ℕ, ◌-◌, true, false, cond, List, [], ◌∷◌, ◌++◌, length, take}
+use Rattle.std.proofs.Common.{ℕ, ◌-◌, true, false, cond, List, [], ◌∷◌, ◌++◌, length, take}
 use Rattle.std.specs.List.{All}
 use Rattle.std.proofs.lemmas.List.Elements.{All-cons, All-nil, All-head, All-tail, All-take, All-filter, All-append}
 use Rattle.history.specs.declared.items.Item.{Item}
 use Rattle.history.specs.declared.edits.Edit.{Edit}
 use Rattle.history.specs.declared.edits.Edit.TheVariants as edits
-use Rattle.history.specs.Item.{slot_of, is_of}
 use Rattle.history.specs.Stack.{Stack}
 use Rattle.history.specs.After.{after, live_items, with_item, overwrites}
 use Rattle.history.proofs.ItemLemmas.{All-last_items}

@@ -1,5 +1,5 @@
 -- one more entry
-use Rattle.std.proofs.Common.{◌≡◌, ℕ, ◌+◌, ◌<◌, ◌≤◌, ◌↔◌, List, [], ◌∷◌, ◌++◌, length, take, drop, map, refl, sym, ap, subst, ◌∙◌, append_assoc, arith, Bool, true, false, cond, Option, Some, None, inl, inr, IsTrue, ⊎_elim}
+use Rattle.std.proofs.Common.{◌≡◌, ℕ, ◌+◌, ◌≤◌, ◌↔◌, List, [], ◌∷◌, ◌++◌, length, take, drop, map, refl, sym, ap, subst, ◌∙◌, append_assoc, arith, Bool, true, false, cond, Option, Some, None, IsTrue}
 use Rattle.std.specs.Prelude.{slice_get}
 use Rattle.std.specs.List.{filter}
 use Rattle.std.proofs.lemmas.Option.{slice_get_within, get_or_from_slice_get}
@@ -11,7 +11,7 @@ use Rattle.outside.specs.declared.job_name.Pipe.{Pipe}
 use Rattle.outside.specs.declared.job_name.Pipe.TheVariants.{Full, Preview, Second}
 use Rattle.edit_steps.specs.declared.step.Step.{Step}
 use Rattle.edit_steps.specs.Changes.{is_change, changes_of}
-use Rattle.edit_steps.specs.Script.{Recipe, changes}
+use Rattle.edit_steps.specs.Script.{Recipe}
 use Rattle.dev_core.specs.declared.desk.Desk.{Desk}
 use Rattle.dev_core.specs.declared.desk.Hold.{Hold}
 use Rattle.dev_core.specs.declared.desk.Slots.{Slots}

@@ -1,10 +1,8 @@
 -- what a worker has is what its own entries say
-use Rattle.std.proofs.Common.{◌≡◌, ◌≢◌, ℕ, ◌↔◌, List, [], ◌∷◌, ◌++◌, refl, sym, ap, subst, ◌∙◌, arith, Bool, true, false, cond, Option, Some, None, eqb, eq-eqb, ⊎_elim}
+use Rattle.std.proofs.Common.{◌≡◌, ◌≢◌, ℕ, ◌↔◌, List, [], ◌∷◌, ◌++◌, refl, sym, ap, subst, ◌∙◌, Bool, true, false, cond, Option, Some, None, eqb, eq-eqb, ⊎_elim}
 use Rattle.std.proofs.lemmas.Bool.Decides.{eqb_tells}
 use Rattle.std.proofs.lemmas.List.Elements.{filter-append}
 use Rattle.std.specs.Prelude.{option_map, unwrap_or, ◌==◌}
-use Rattle.std.specs.List.{filter}
-use Rattle.outside.specs.declared.job_name.JobName.{JobName}
 use Rattle.outside.specs.declared.job_name.JobName.TheVariants as job
 use Rattle.outside.specs.declared.job_name.Pipe.{Pipe}
 use Rattle.outside.specs.declared.job_name.Pipe.TheVariants.{Full, Preview, Second}
@@ -15,9 +13,9 @@ use Rattle.dev_core.specs.declared.desk.Slot.{Slot}
 use Rattle.dev_core.specs.declared.desk.Slots.{Slots}
 use Rattle.dev_core.specs.declared.entry.Entry.{Entry}
 use Rattle.dev_core.specs.declared.entry.Entry.TheVariants.{Changed, Closed, Took, Restarted, Published, GaveBack}
-use Rattle.dev_core.specs.Desk.{start, next, desk_of, May, Legal, LegalFrom, HoldsPipe, IsIdle, at, put, held_by}
+use Rattle.dev_core.specs.Desk.{start, next, desk_of, May, Legal, LegalFrom, HoldsPipe, at, put, held_by}
 use Rattle.dev_core.specs.Lines.{Line}
-use Rattle.dev_core.specs.Own.{worker_of, job_after, held, own, job_of, HoldsJob, Says}
+use Rattle.dev_core.specs.Own.{worker_of, job_after, held, own, job_of, Says}
 
 abbrev line : Pipe → ℕ → Line
 line p m = record { job = job.Pipe p; moment = m }

@@ -1,5 +1,5 @@
 -- scripts whose pictures a run can make so far
-use Rattle.std.specs.Prelude.{⊤, List}
+use Rattle.std.specs.Prelude.{⊤}
 use Rattle.std.specs.List.{All}
 use Rattle.history.specs.declared.edits.Edit.{Edit}
 use Rattle.history.specs.declared.edits.Edit.TheVariants as edits

@@ -12,7 +12,7 @@ use Rattle.pnm.specs.Pnm.{IsPicture}
 use Rattle.pnm.proofs.FrontLemmas.{picture-front}
 use Rattle.edit_script.specs.Script.{script_of}
 use Rattle.stepped.specs.declared.event.Event.{Event}
-use Rattle.stepped.specs.Reads.{events_of}
+use Rattle.stepped.specs.EventForms.{events_of}
 use Rattle.develop_session.specs.Files.{HasScript, HasBadScript, HasSource, HasBadSource, HasEvents, HasNoEvents}
 
 -- a file whose front was read stands there

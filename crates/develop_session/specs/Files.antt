@@ -10,7 +10,7 @@ use Rattle.edit_steps.specs.declared.fault.ScriptFault.{ScriptFault}
 use Rattle.edit_steps.specs.Script.{Recipe}
 use Rattle.edit_script.specs.Script.{script_of}
 use Rattle.stepped.specs.declared.event.Event.{Event}
-use Rattle.stepped.specs.Reads.{events_of}
+use Rattle.stepped.specs.EventForms.{events_of}
 
 -- a script stands under the name
 pub record HasScript (name : List ℕ) (fs : Files) (script : Recipe) : Type 0 where

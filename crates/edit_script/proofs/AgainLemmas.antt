@@ -25,6 +25,7 @@ use Rattle.params.specs.Read.{params_of, blend_of}
 use Rattle.params.specs.Written.{natural_data, params_data, blend_data}
 use Rattle.params.specs.Stated.{null_or}
 use Rattle.params.proofs.AgainLemmas.{params_again, blend_again}
+use Rattle.params.proofs.NameLemmas.{module_again}
 use Rattle.params.proofs.RowAgain.{natural_again}
 use Rattle.params.proofs.Faults.{fit_tells}
 use Rattle.history.specs.declared.items.Item.{Item}
@@ -70,14 +71,7 @@ cfa_back (Some Grbg) = refl
 cfa_back (Some Gbrg) = refl
 
 pub module_back : (m : Module) → module_named (name_of_module m) ≡ Some m
-module_back modules.RawPrepare = refl
-module_back modules.Temperature = refl
-module_back modules.Demosaic = refl
-module_back modules.Orientation = refl
-module_back modules.Crop = refl
-module_back modules.Exposure = refl
-module_back modules.ChannelMixer = refl
-module_back modules.ToneCurve = refl
+module_back m = module_again m
 
 sides_back : (longest : ℕ) (b : BoxSize) → 1 ≤ b.w → b.w ≤ longest → 1 ≤ b.h → b.h ≤ longest → longest ≤ 16384 → sides_form longest (box_data b) ≡ Some b
 unfolding sides_form

@@ -40,7 +40,7 @@ use Rattle.edit_script.specs.Binds.{◌>>=◌}
 use Rattle.edit_script.specs.Opening.{Stated, history_form}
 use Rattle.edit_script.specs.Step.{step_form}
 use Rattle.edit_script.specs.Settings.{settings_in}
-use Rattle.edit_script.specs.Reads.{IsRead, is_bad_edit, is_bad_params, HasNoBadParams, EndsWithoutBadParams}
+use Rattle.edit_script.specs.Reads.{IsReadAs, is_bad_edit, is_bad_params, HasNoBadParams, EndsWithoutBadParams}
 use Rattle.edit_script.specs.Script.{fault_at, or_form, or_param, or_text, unless_edit, few_items, order_of, stack_of, opening_of, opening_at, step_behind, steps_behind, steps_in, script_in, script_of}
 use Rattle.edit_script.proofs.StepLemmas.{IsItem}
 use Rattle.edit_script.proofs.KeptLemmas.{IsKept, HasKept, history_kept}
@@ -255,7 +255,7 @@ err_own (Ok x) f h e = cc
 err_own (Err g) f h e = let same : g ≡ f = cc in subst HasNoBadParams same h
 
 -- what reading a script answers never blames an edit's values
-pub read_own : (r : Result Recipe ScriptEnd) (bytes : List ℕ) → IsRead (λ s. s) r (script_of bytes) → IfErr r EndsWithoutBadParams
+pub read_own : (r : Result Recipe ScriptEnd) (bytes : List ℕ) → IsReadAs (λ s. s) r (script_of bytes) → IfErr r EndsWithoutBadParams
 read_own (Ok s) bytes h = tt
 read_own (Err (ends.Fault f)) bytes h = err_own (script_of bytes) f (script_own bytes) h
 read_own (Err ends.Memory) bytes h = tt

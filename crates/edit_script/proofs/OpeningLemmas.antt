@@ -14,7 +14,7 @@ use Rattle.history.specs.Faults.{stack_fault, of_order}
 use Rattle.history.proofs.HistoryLemmas.{IsHistory-fault}
 use Rattle.edit_steps.specs.declared.fault.ScriptFault.{ScriptFault}
 use Rattle.edit_steps.specs.declared.fault.ScriptEnd.{ScriptEnd}
-use Rattle.edit_script.specs.Reads.{IsRead}
+use Rattle.edit_script.specs.Reads.{IsReadAs}
 use Rattle.edit_steps.specs.Ranges.{IsOpening}
 use Rattle.edit_script.specs.Binds.{◌>>=◌}
 use Rattle.edit_script.specs.Opening.{Stated, history_form}
@@ -92,6 +92,6 @@ opening_within None = start_within
 opening_within (Some d) = form_case (history_form d) (history_few d)
 
 -- the opening history that is read may begin a script
-pub opening_on_ok : (o : Option Data) (r : Result Stack ScriptEnd) → IsRead (λ h. h) r (opening_at o) → IfOk r IsOpening
+pub opening_on_ok : (o : Option Data) (r : Result Stack ScriptEnd) → IsReadAs (λ h. h) r (opening_at o) → IfOk r IsOpening
 opening_on_ok o (Ok h) read = ok_case (opening_at o) h (opening_within o) read
 opening_on_ok o (Err end) read = tt

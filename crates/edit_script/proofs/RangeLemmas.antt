@@ -16,7 +16,7 @@ use Rattle.params.specs.Form.{has_only, pair, ◌>>=◌, integer, natural, natur
 use Rattle.params.specs.Stated.{null_or}
 use Rattle.edit_steps.specs.Ranges.{IsView, IsSettings}
 use Rattle.edit_script.specs.Parts.{view_keys, depth_form, cfa_form, sides_form, view_at_keys, view_form}
-use Rattle.edit_steps.specs.Settings.{start_view, start_settings}
+use Rattle.edit_steps.specs.Settings.{start_view}
 use Rattle.edit_script.specs.Settings.{settings_keys, settings_at_keys, settings_in}
 
 -- ---- chains

@@ -7,7 +7,9 @@ use Rattle.std.proofs.lemmas.Bool.Decides.{nat_tests}
 use Rattle.serde_json.specs.Data.{Items}
 use Rattle.serde_json.specs.View.{items_of}
 use Rattle.params.specs.declared.fault.ParamFault.{ParamFault}
-use Rattle.params.specs.Names.{number_of}
+use Rattle.params.specs.Names.{number_of, last_number}
+use Rattle.params.specs.declared.modules.Module.TheVariants as modules
+use Rattle.params.proofs.NameLemmas.{number_at}
 use Rattle.module_order.specs.declared.slots.Slot.{Slot}
 use Rattle.module_order.specs.Order.{IsOrder}
 use Rattle.module_order.specs.Faults.{unless}
@@ -39,31 +41,18 @@ all_tail P x xs h k d less = h (suc k) d (omega (arith, less))
 
 -- ---- the order
 
-numbered_back : (n : ℕ) → n ≤ 9 → number_of (module_numbered n) ≡ n
-numbered_back zero h = refl
-numbered_back (suc zero) h = refl
-numbered_back (suc (suc zero)) h = refl
-numbered_back (suc (suc (suc zero))) h = refl
-numbered_back (suc (suc (suc (suc zero)))) h = refl
-numbered_back (suc (suc (suc (suc (suc zero))))) h = refl
-numbered_back (suc (suc (suc (suc (suc (suc zero)))))) h = refl
-numbered_back (suc (suc (suc (suc (suc (suc (suc zero))))))) h = refl
-numbered_back (suc (suc (suc (suc (suc (suc (suc (suc zero)))))))) h = refl
-numbered_back (suc (suc (suc (suc (suc (suc (suc (suc (suc zero))))))))) h = refl
-numbered_back (suc (suc (suc (suc (suc (suc (suc (suc (suc (suc k)))))))))) h = absurd (omega (arith, h))
-
-slot_back : (s : Slot) → s.module ≤ 9 → s.instance ≤ 255 → slot_form (slot_data s) ≡ Some s
+slot_back : (s : Slot) → s.module ≤ last_number → s.instance ≤ 255 → slot_form (slot_data s) ≡ Some s
 unfolding slot_form
 slot_back s h k =
     rw (module_back (module_numbered s.module), natural_back 0 255 s.instance (omega arith) k (omega (arith, k)))
-    (λ i. Some (record { «module» = numbered_back s.module h i; instance = s.instance }))
+    (λ i. Some (record { «module» = number_at s.module modules.ToneCurve h i; instance = s.instance }))
 
-slots_back : (order : List Slot) → All (λ s. s.module ≤ 9) order → All (λ s. s.instance ≤ 255) order → slots_form (items_of (map slot_data order)) ≡ Some order
+slots_back : (order : List Slot) → All (λ s. s.module ≤ last_number) order → All (λ s. s.instance ≤ 255) order → slots_form (items_of (map slot_data order)) ≡ Some order
 slots_back [] h k = refl
 slots_back (s ∷ ss) h k =
     rw (
-      slot_back s (all_head (λ s. s.module ≤ 9) s ss h) (all_head (λ s. s.instance ≤ 255) s ss k),
-      slots_back ss (all_tail (λ s. s.module ≤ 9) s ss h) (all_tail (λ s. s.instance ≤ 255) s ss k),
+      slot_back s (all_head (λ s. s.module ≤ last_number) s ss h) (all_head (λ s. s.instance ≤ 255) s ss k),
+      slots_back ss (all_tail (λ s. s.module ≤ last_number) s ss h) (all_tail (λ s. s.instance ≤ 255) s ss k),
     ) refl
 
 -- ---- items

@@ -1,15 +1,15 @@
--- The slots of a history that has the form are of the eight modules.
+-- The slots of a history that has the form are of modules.
 use Rattle.std.proofs.Common.{ℕ, ◌≤◌, List, [], ◌∷◌, Option, Some, None, option_map, Result, IfSome, codes, suc, zero, arith}
 use Rattle.std.specs.List.{All}
 use Rattle.serde_json.specs.Data.{Data, Items, no_items, item}
 use Rattle.params.specs.declared.modules.Module.{Module}
-use Rattle.params.specs.declared.modules.Module.TheVariants as modules
-use Rattle.params.specs.Names.{number_of}
+use Rattle.params.specs.Names.{number_of, last_number}
 use Rattle.module_order.specs.declared.slots.Slot.{Slot}
 use Rattle.module_order.specs.Slot.{slot}
 use Rattle.history.specs.declared.items.Item.{Item}
 use Rattle.params.specs.Form.{has_only, natural, natural_at, items_at, pair, ◌>>=◌}
 use Rattle.params.specs.Names.{module_named}
+use Rattle.params.proofs.NameLemmas.{number_few}
 use Rattle.params.specs.declared.fault.ParamFault.{ParamFault}
 use Rattle.serde_json.specs.Find.{as_str}
 use Rattle.edit_script.specs.Opening.{Stated, slot_form, slots_form, kept_items, history_form}
@@ -17,13 +17,9 @@ use Rattle.edit_script.proofs.RangeLemmas.{only_some}
 
 -- ---- slots
 
--- the slot is of one of the ten modules
+-- the slot is of a module
 abbrev pub IsOfModule : Slot → Type 0
-IsOfModule s = s.module ≤ 9
-
-number_few : (m : Module) → number_of m ≤ 9
-number_few modules.RawPrepare = omega arith
-number_few _ = omega arith
+IsOfModule s = s.module ≤ last_number
 
 named_few : (m : Option Module) (instance : Option ℕ) → IfSome (m >>= λ m. instance >>= λ i. Some (slot (number_of m) i)) IsOfModule
 named_few None instance = tt
@@ -59,7 +55,7 @@ slots_few : (ds : Items) → IfSome (slots_form ds) (All IsOfModule)
 slots_few no_items = λ k d h. absurd (omega (arith, h))
 slots_few (item d ds) = slots_more (slot_form d) (slots_form ds) (slot_few d) (slots_few ds)
 
--- the order of the history is of the eight modules
+-- the order of the history is of modules
 abbrev pub IsOfModules : Stated → Type 0
 IsOfModules s = All IsOfModule s.order
 

@@ -18,10 +18,10 @@ IsFormed view (Err Form) form = form ≡ None
 IsFormed view (Err Memory) form = ⊤
 
 -- what was returned, seen by `view`, is what reading gives, unless memory ran out
-abbrev pub IsRead : {X Y : Type 0} → (X → Y) → Result X ScriptEnd → Result Y ScriptFault → Type 0
-IsRead view (Ok x) read = read ≡ Ok (view x)
-IsRead view (Err (ends.Fault f)) read = read ≡ Err f
-IsRead view (Err ends.Memory) read = ⊤
+abbrev pub IsReadAs : {X Y : Type 0} → (X → Y) → Result X ScriptEnd → Result Y ScriptFault → Type 0
+IsReadAs view (Ok x) read = read ≡ Ok (view x)
+IsReadAs view (Err (ends.Fault f)) read = read ≡ Err f
+IsReadAs view (Err ends.Memory) read = ⊤
 
 -- why nothing was read at a step where a form was asked for
 abbrev pub end_at : ℕ → FormEnd → ScriptEnd

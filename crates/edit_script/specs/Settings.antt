@@ -1,9 +1,7 @@
 -- The form of a script's settings.
-use Rattle.std.specs.Prelude.{List, ℕ, [], ◌∷◌, Option, Some, None, unwrap_or, codes}
+use Rattle.std.specs.Prelude.{List, ℕ, [], ◌∷◌, Option, Some, unwrap_or, codes}
 use Rattle.serde_json.specs.Data.{Data, object, no_members}
 use Rattle.serde_json.specs.Find.{get}
-use Rattle.px.specs.declared.depth.Depth.TheVariants.{Eight}
-use Rattle.px.specs.declared.view.View.{View}
 use Rattle.edit_steps.specs.declared.settings.Settings.{Settings}
 use Rattle.edit_steps.specs.Settings.{start_settings}
 use Rattle.params.specs.Form.{natural_or, or_absent, ◌>>=◌}

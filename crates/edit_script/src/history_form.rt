@@ -5,12 +5,12 @@ ghost use Rattle.edit_script.specs.Opening.{with_item, kept_items, slot_form, sl
 ghost use Rattle.edit_script.specs.Reads.{IsFormed};
 ghost use Rattle.edit_script.specs.Seen.{seen_items, seen_stated};
 
-use crate::form_end::FormEnd;
+use crate::form_end::{FormEnd, Ranged};
 use crate::item_form::item_form;
 use history::Item;
 use module_order::Slot;
 use params::form::{has_only, items_at, natural, natural_at, pair};
-use params::{ParamFault, module_named};
+use params::module_named;
 use serde_json::Value;
 use std::alloc::{AllocError, Global};
 
@@ -21,16 +21,13 @@ const LAST_END: u32 = 65_535;
 // order.
 #[derive(Drop)]
 pub(crate) struct StatedHistory {
-    pub items: Result<Vec<Item>, ParamFault>,
+    pub items: Ranged<Vec<Item>>,
     pub end: u32,
     pub order: Vec<Slot>,
 }
 
 // One more item behind those that were kept, unless there was a fault.
-fn and_item(
-    kept: Result<Vec<Item>, ParamFault>,
-    item: Result<Item, ParamFault>,
-) -> Result<Result<Vec<Item>, ParamFault>, AllocError>
+fn and_item(kept: Ranged<Vec<Item>>, item: Ranged<Item>) -> Result<Ranged<Vec<Item>>, AllocError>
     ensures { IfOk result (λ r. seen_items r ≡ with_item (seen_items kept) item) }
 {
     let mut items = match kept {
@@ -44,7 +41,7 @@ fn and_item(
     Ok(Ok(items))
 }
 
-fn kept_items(alloc: Global, values: &[Value]) -> Result<Result<Vec<Item>, ParamFault>, FormEnd>
+fn kept_items(alloc: Global, values: &[Value]) -> Result<Ranged<Vec<Item>>, FormEnd>
     ensures { IsFormed seen_items result (kept_items (items_view values.now)) }
 {
     let mut kept = Ok(Vec::new(alloc));

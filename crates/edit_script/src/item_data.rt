@@ -2,6 +2,7 @@
 ghost use Rattle.std.specs.Prelude.{◌≡◌, ◌≤◌, IfOk, OnOk, Ok, None, map, length};
 ghost use Rattle.std.specs.List.{All};
 ghost use Rattle.serde_json.specs.View.{view, items_view, items_of};
+ghost use Rattle.params.specs.Names.{last_number};
 ghost use Rattle.params.specs.Ranges.{IsWithin, check_of};
 ghost use Rattle.params.specs.Written.{params_data as params_seen};
 ghost use Rattle.history.specs.Faults.{values_fault};
@@ -57,14 +58,14 @@ fn items_data(alloc: Global, items: &[Item]) -> Result<Vec<Value>, AllocError>
 
 // The module of a number.
 fn module_numbered(number: u8) -> Module
-    requires { number ≤ 9 }
+    requires { number ≤ last_number }
     ensures { result ≡ module_numbered number }
 {
     MODULES[usize::from(number)]
 }
 
 fn slot_data(alloc: Global, slot: Slot) -> Result<Value, AllocError>
-    requires { slot.module ≤ 9 }
+    requires { slot.module ≤ last_number }
     ensures value { IfOk result (λ v. view v ≡ slot_data slot) }
     ensures instance { slot.instance ≤ 255 }
 {
@@ -72,7 +73,7 @@ fn slot_data(alloc: Global, slot: Slot) -> Result<Value, AllocError>
 }
 
 fn order_data(alloc: Global, order: &Order) -> Result<Vec<Value>, AllocError>
-    requires { All (λ s. s.module ≤ 9) order.now }
+    requires { All (λ s. s.module ≤ last_number) order.now }
     ensures value { IfOk result (λ v. items_view v.items ≡ items_of (map slot_data order.now)) }
     ensures typed { OnOk result (IsOrderTyped order.now) }
 {

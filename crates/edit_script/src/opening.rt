@@ -4,20 +4,20 @@ ghost use Rattle.serde_json.specs.View.{view};
 ghost use Rattle.edit_steps.specs.Ranges.{IsOpening};
 ghost use Rattle.edit_script.specs.Binds.{result_and_then};
 ghost use Rattle.edit_script.specs.Script.{or_param, few_items, order_of, stack_of, opening_of, start_history, opening_at};
-ghost use Rattle.edit_script.specs.Reads.{IsRead};
+ghost use Rattle.edit_script.specs.Reads.{IsReadAs};
 ghost use Rattle.edit_script.specs.Seen.{seen_items, seen_stated};
 ghost use Rattle.history.specs.Stack.{stack};
 
 use crate::faults::{end_at, fault_at, of_order};
+use crate::form_end::Ranged;
 use crate::history_form::{StatedHistory, history_form};
 use edit_steps::{MAX_ITEMS, Reason, ScriptEnd, ScriptFault};
 use history::{History, Item};
 use module_order::{Order, Slot};
-use params::ParamFault;
 use serde_json::Value;
 use std::alloc::Global;
 
-fn few_items(kept: Result<Vec<Item>, ParamFault>) -> Result<Vec<Item>, ScriptFault>
+fn few_items(kept: Ranged<Vec<Item>>) -> Result<Vec<Item>, ScriptFault>
     ensures { seen_items result ≡ result_and_then few_items (or_param 0 (seen_items kept)) }
 {
     match kept {
@@ -58,13 +58,13 @@ fn opening_of(stated: StatedHistory) -> Result<History, ScriptFault>
 }
 
 fn start_of(alloc: Global) -> Result<History, ScriptEnd>
-    ensures { IsRead (λ h. h) result (Ok start_history) }
+    ensures { IsReadAs (λ h. h) result (Ok start_history) }
 {
     Ok(History::start(alloc)?)
 }
 
 fn opening_read(alloc: Global, value: &Value) -> Result<History, ScriptEnd>
-    ensures { IsRead (λ h. h) result (opening_at (Some (view value.now))) }
+    ensures { IsReadAs (λ h. h) result (opening_at (Some (view value.now))) }
 {
     let stated = match history_form(alloc, value) {
         Ok(stated) => stated,
@@ -78,7 +78,7 @@ fn opening_read(alloc: Global, value: &Value) -> Result<History, ScriptEnd>
 
 /// The opening history, or the start history where no value stands for it.
 pub(crate) fn opening_at(alloc: Global, value: Option<&Value>) -> Result<History, ScriptEnd>
-    ensures read { IsRead (λ h. h) result (opening_at (option_map (λ v. view v.now) value.entry)) }
+    ensures read { IsReadAs (λ h. h) result (opening_at (option_map (λ v. view v.now) value.entry)) }
     ensures within { IfOk result IsOpening }
 {
     match value {

@@ -7,7 +7,7 @@ ghost use Rattle.edit_script.specs.Binds.{result_and_then};
 ghost use Rattle.edit_script.specs.Settings.{settings_in as settings_stated};
 ghost use Rattle.edit_script.specs.Step.{step_form as step_stated};
 ghost use Rattle.edit_script.specs.Script.{or_text, or_form, or_param, steps_in, step_behind, steps_behind, script_in, script_of};
-ghost use Rattle.edit_script.specs.Reads.{IsRead, EndsWithoutBadParams};
+ghost use Rattle.edit_script.specs.Reads.{IsReadAs, EndsWithoutBadParams};
 
 use crate::faults::{end_at, fault_at};
 use crate::opening::opening_at;
@@ -20,7 +20,7 @@ use serde_json::Value;
 use std::alloc::Global;
 
 fn text_of(alloc: Global, bytes: &[u8]) -> Result<Value, ScriptEnd>
-    ensures { IsRead view result (or_text (text_in bytes.now)) }
+    ensures { IsReadAs view result (or_text (text_in bytes.now)) }
 {
     match value_of(alloc, bytes) {
         Ok(value) => Ok(value),
@@ -42,7 +42,7 @@ fn steps_in(value: &Value) -> Option<&[Value]>
 
 #[tactic(auto, using(crate::proofs::ReadLemmas::settings_on_ok))]
 fn settings_of(alloc: Global, value: &Value) -> Result<Settings, ScriptEnd>
-    ensures read { IsRead (λ s. s) result (or_form 0 (settings_stated (view value.now))) }
+    ensures read { IsReadAs (λ s. s) result (or_form 0 (settings_stated (view value.now))) }
     ensures within { IfOk result IsSettings }
 {
     match settings_in(alloc, value) {
@@ -54,7 +54,7 @@ fn settings_of(alloc: Global, value: &Value) -> Result<Settings, ScriptEnd>
 // The step that a value is, at its number.
 #[tactic(auto, using(crate::proofs::ReadLemmas::step_on_ok))]
 fn step_of(alloc: Global, number: u32, value: &Value) -> Result<Step, ScriptEnd>
-    ensures read { IsRead (λ s. s) result (result_and_then (or_param number) (or_form number (step_stated (view value.now)))) }
+    ensures read { IsReadAs (λ s. s) result (result_and_then (or_param number) (or_form number (step_stated (view value.now)))) }
     ensures within { IfOk result IsStepWithin }
 {
     match step_form(alloc, value) {
@@ -67,14 +67,14 @@ fn step_of(alloc: Global, number: u32, value: &Value) -> Result<Step, ScriptEnd>
 // Puts the step that a value is behind those of the draft.
 #[tactic(auto, unfolding(crate::specs::Script::step_behind))]
 fn step_behind(alloc: Global, draft: &mut Draft, value: &Value) -> Result<(), ScriptEnd>
-    ensures { IsRead (λ _. draft.new) result (step_behind draft.old (view value.now)) }
+    ensures { IsReadAs (λ _. draft.new) result (step_behind draft.old (view value.now)) }
 {
     let step = step_of(alloc, draft.next_step(), value)?;
     draft.push(alloc, step)
 }
 
 fn steps_behind(alloc: Global, draft: &mut Draft, values: &[Value]) -> Result<(), ScriptEnd>
-    ensures { IsRead (λ _. draft.new) result (steps_behind draft.old (items_view values.now)) }
+    ensures { IsReadAs (λ _. draft.new) result (steps_behind draft.old (items_view values.now)) }
 {
     for value in values {
         step_behind(alloc, draft, value)?;
@@ -84,7 +84,7 @@ fn steps_behind(alloc: Global, draft: &mut Draft, values: &[Value]) -> Result<()
 
 #[tactic(auto, unfolding(crate::specs::Script::script_in))]
 fn script_in(alloc: Global, value: &Value) -> Result<Script, ScriptEnd>
-    ensures { IsRead (λ s. s) result (script_in (view value.now)) }
+    ensures { IsReadAs (λ s. s) result (script_in (view value.now)) }
 {
     let Some(values) = steps_in(value) else {
         return Err(ScriptEnd::Fault(fault_at(0, Reason::Form)));
@@ -97,7 +97,7 @@ fn script_in(alloc: Global, value: &Value) -> Result<Script, ScriptEnd>
 }
 
 fn script_of(alloc: Global, bytes: &[u8]) -> Result<Script, ScriptEnd>
-    ensures { IsRead (λ s. s) result (script_of bytes.now) }
+    ensures { IsReadAs (λ s. s) result (script_of bytes.now) }
 {
     let value = text_of(alloc, bytes)?;
     script_in(alloc, &value)
@@ -115,8 +115,8 @@ fn script_of(alloc: Global, bytes: &[u8]) -> Result<Script, ScriptEnd>
 ///
 /// The front of a longer text, with one byte above the limit, is refused as the whole text is.
 pub fn read(alloc: Global, bytes: &[u8]) -> Result<Script, ScriptEnd>
-    ensures value { IsRead (λ s. s) result (script_of bytes.now) }
-    ensures front { (text : List ℕ) → take 4194305 text ≡ bytes.now → IsRead (λ s. s) result (script_of text) }
+    ensures value { IsReadAs (λ s. s) result (script_of bytes.now) }
+    ensures front { (text : List ℕ) → take 4194305 text ≡ bytes.now → IsReadAs (λ s. s) result (script_of text) }
     ensures param { IfErr result EndsWithoutBadParams }
 {
     script_of(alloc, bytes)

@@ -8,13 +8,12 @@ ghost use Rattle.edit_script.specs.Parts.{sides_form as sides_in_form};
 ghost use Rattle.edit_script.specs.Step.{select_form, compress_form, undo_form, redo_form, settle_form, instance_at, place_at, add_form, move_form, delete_form, view_step_form, second_step_form, export_form, thumbnail_form, plain_form, set_of, set_form, step_named, step_form};
 ghost use Rattle.edit_script.specs.Reads.{IsFormed};
 
-use crate::form_end::FormEnd;
+use crate::form_end::{FormEnd, Ranged};
 use crate::item_form::{item_at_keys, module_at};
 use crate::parts::{sides_form, view_at_keys};
 use crate::settings_form::depth_or_eight;
 use edit_steps::Step;
 use history::{Edit, Item};
-use params::ParamFault;
 use params::form::{has_only, natural_at, text_at};
 use px::{BoxSize, SIDE};
 use serde_json::Value;
@@ -212,7 +211,7 @@ fn plain_form(word: &str, value: &Value) -> Option<Step>
     }
 }
 
-fn set_of(item: Result<Item, ParamFault>) -> Result<Step, ParamFault>
+fn set_of(item: Ranged<Item>) -> Ranged<Step>
     ensures { result ≡ set_of item }
 {
     match item {
@@ -222,7 +221,7 @@ fn set_of(item: Result<Item, ParamFault>) -> Result<Step, ParamFault>
 }
 
 #[tactic(auto, unfolding(crate::specs::Step::set_form))]
-fn set_form(alloc: Global, value: &Value) -> Result<Result<Step, ParamFault>, FormEnd>
+fn set_form(alloc: Global, value: &Value) -> Result<Ranged<Step>, FormEnd>
     ensures { IsFormed (λ s. s) result (set_form (view value.now)) }
 {
     let keys = ["do", "module", "instance", "enabled", "version", "params", "blend"];
@@ -233,7 +232,7 @@ fn set_form(alloc: Global, value: &Value) -> Result<Result<Step, ParamFault>, Fo
     Ok(set_of(item))
 }
 
-fn step_named(alloc: Global, word: &str, value: &Value) -> Result<Result<Step, ParamFault>, FormEnd>
+fn step_named(alloc: Global, word: &str, value: &Value) -> Result<Ranged<Step>, FormEnd>
     ensures { IsFormed (λ s. s) result (step_named (view value.now) word.now) }
 {
     if word == "set" {
@@ -247,7 +246,7 @@ fn step_named(alloc: Global, word: &str, value: &Value) -> Result<Result<Step, P
 
 /// The step that a value is, or the first number outside its range, if it has the form.
 #[tactic(auto, unfolding(crate::specs::Step::step_form))]
-pub(crate) fn step_form(alloc: Global, value: &Value) -> Result<Result<Step, ParamFault>, FormEnd>
+pub(crate) fn step_form(alloc: Global, value: &Value) -> Result<Ranged<Step>, FormEnd>
     ensures { IsFormed (λ s. s) result (step_form (view value.now)) }
 {
     match text_at(value, "do") {

@@ -3,6 +3,7 @@ use Rattle.std.specs.Prelude.{◌≡◌, ◌*◌, ◌≤◌, ⊤, length, None, 
 use Rattle.std.specs.List.{All}
 use Rattle.px.specs.declared.view.View.{View}
 use Rattle.px.specs.declared.view.BoxSize.{BoxSize}
+use Rattle.params.specs.Names.{last_number}
 use Rattle.history.specs.declared.edits.Edit.{Edit}
 use Rattle.history.specs.declared.edits.Edit.TheVariants as edits
 use Rattle.history.specs.Stack.{Stack}
@@ -58,7 +59,7 @@ pub record IsSettings (s : Settings) : Type 0 where
 pub record IsOpening (h : Stack) : Type 0 where
   pub history : IsHistory h
   pub few : length h.items ≤ 256
-  pub modules : All (λ s. s.module ≤ 9) h.order
+  pub modules : All (λ s. s.module ≤ last_number) h.order
 
 -- the numbers of an edit are ones that a script can hold: an item's values are within their ranges, and there is no blend on
 -- a module that doesn't blend

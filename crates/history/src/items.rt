@@ -8,7 +8,7 @@ use std::alloc::{AllocError, Global};
 
 /// The settings of a module instance as one edit left them: whether it is enabled, its parameters, and
 /// how its output is blended with its input, if it is.
-#[derive(Debug, PartialEq, Eq, Drop)]
+#[derive(Clone, Copy, Debug, PartialEq, Eq)]
 pub struct Item {
     pub instance: u8,
     pub enabled: bool,

@@ -25,17 +25,18 @@ pub(crate) fn overwrites(items: &[Item], item: &Item) -> bool
     }
 }
 
-// Cuts the items after the first `kept` and puts one on top. Memory is wanted only where nothing is cut.
-pub(crate) fn put_on(items: &mut Vec<Item>, kept: usize, item: Item) -> Result<(), AllocError>
-    requires { kept ≤ vec_len items.old }
-    ensures items { OnOk result (items.new.items ≡ take kept items.old.items ++ item ∷ []) }
-    ensures unchanged { OnErr result (items.new.items ≡ items.old.items) }
+// Cuts what stands behind the first `kept` of a list and puts one on top. Memory is wanted only where
+// nothing is cut.
+pub(crate) fn put_on<T: Copy>(list: &mut Vec<T>, kept: usize, top: T) -> Result<(), AllocError>
+    requires { kept ≤ vec_len list.old }
+    ensures items { OnOk result (list.new.items ≡ take kept list.old.items ++ top ∷ []) }
+    ensures unchanged { OnErr result (list.new.items ≡ list.old.items) }
 {
-    if kept == items.len() {
-        items.reserve(1)?;
+    if kept == list.len() {
+        list.reserve(1)?;
     }
-    items.truncate(kept);
-    items.push_reserved(item);
+    list.truncate(kept);
+    list.push_reserved(top);
     Ok(())
 }
 

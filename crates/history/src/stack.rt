@@ -143,7 +143,7 @@ impl History {
         ensures unchanged { OnErr result (self.new ≡ self.old) }
     {
         match edit {
-            Edit::Set(item) => self.set(alloc, item),
+            Edit::Set(item) => self.set(item),
             Edit::Select { end } => {
                 self.select(*end);
                 Ok(Kind::Synch)
@@ -175,22 +175,21 @@ impl History {
         }
     }
 
-    fn set(&mut self, alloc: Global, item: &Item) -> Result<Kind, AllocError>
+    fn set(&mut self, item: &Item) -> Result<Kind, AllocError>
         requires { item_fault self.old.order item.now ≡ None }
         ensures history { OnOk result (self.new ≡ after_set self.old item.now) }
         ensures kind { IfOk result (λ kind. kind ≡ set_kind self.old item.now) }
         ensures unchanged { OnErr result (self.new ≡ self.old) }
     {
         let end = self.end as usize;
-        let item = item.copy(alloc)?;
-        if overwrites(&self.items[..end], &item) {
-            put_on(&mut self.items, end - 1, item)?;
+        if overwrites(&self.items[..end], item) {
+            put_on(&mut self.items, end - 1, *item)?;
             return Ok(Kind::Top);
         }
         if self.end == u32::MAX {
             return Err(AllocError);
         }
-        put_on(&mut self.items, end, item)?;
+        put_on(&mut self.items, end, *item)?;
         self.end += 1;
         Ok(Kind::Synch)
     }

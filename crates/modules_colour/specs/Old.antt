@@ -23,7 +23,7 @@ old_means (old.ToneCurve1 nodes) q level = changed (curved nodes) q
 abbrev pub colour_means : Params → Picture → ℕ → Picture
 colour_means (params.Exposure e) q level = exposed_picture e q
 colour_means (params.ChannelMixer m) q level = mixed_picture m q
-colour_means (params.ToneCurve t) q level = curved_picture (record { red = t.red; green = t.green; blue = t.blue }) q
+colour_means (params.ToneCurve t) q level = curved_picture t q
 colour_means _ q level = q
 
 -- the settings mean what the old ones meant, for every picture and level

@@ -1,15 +1,20 @@
 -- Lemmas on pictures whose pixels are moved.
-use Rattle.std.proofs.Common.{◌≡◌, ℕ, ◌+◌, ◌<◌, ◌≤◌, List, [], ◌∷◌, slice_index, refl, sym, ap, ◌∙◌, subst, arith}
+use Rattle.std.proofs.Common.{◌≡◌, ℕ, ◌+◌, ◌-◌, ◌<◌, ◌≤◌, ℤ, pos, Bool, false, List, [], ◌∷◌, slice_index, refl, sym, ap, ◌∙◌, subst, arith}
+use Rattle.std.proofs.Math.Nat.{add-zero}
+use Rattle.std.proofs.lemmas.Int.{ints}
 use Rattle.params.specs.declared.settings.Params.{Params}
 use Rattle.params.specs.Ranges.{IsWithin}
 use Rattle.px.specs.declared.kind.PlaneKind.TheVariants.{Rgb}
 use Rattle.px.specs.declared.trace.Trace.{Trace}
 use Rattle.px.specs.Area.{Area, HasPixel, IsIn, Covers, Fits}
-use Rattle.px.specs.Cut.{Cut, IsPlane, IsCutOf, rgb_at}
-use Rattle.px.specs.Painted.{AsksIn, IsPainted}
-use Rattle.px.specs.Picture.{Picture, rgb_of}
+use Rattle.px.specs.Copied.{IsCopied}
+use Rattle.px.specs.Cut.{Cut, IsPlane, IsCutOf, rgb_at, value_at}
+use Rattle.px.specs.Kind.{channels}
+use Rattle.px.specs.Painted.{AsksIn, IsPainted, IsRow}
+use Rattle.px.specs.Picture.{Picture, pixel_by, rgb_of}
 use Rattle.px.specs.Trace.{Traces, TracesWithin}
 use Rattle.px.proofs.PaintedLemmas.{cut_of_rgb, pixel_of_part}
+use Rattle.px.proofs.PixelLemmas.{IsOwnRow, copied_row}
 use Rattle.geometry.specs.Behind.{GeometrySeen, IsBehind, IsTraceOf}
 use Rattle.geometry.specs.Needed.{needed, reach}
 use Rattle.geometry.specs.Sides.{IsPixelOf, sides_after, pixel_before}
@@ -76,3 +81,48 @@ given-moved i t x y u v r traces is top = record {
       is ∙ (λ k. rgb_at i (column k) (row k));
   top = top;
 }
+
+-- ---- pixels side by side
+
+straight-on : (flip_y : Bool) (add_x add_y : ℤ) (level x y u v k : ℕ) → Traces (record { swap = false; flip_x = false; flip_y = flip_y; add_x = add_x; add_y = add_y; level = level }) x y u v
+    → Traces (record { swap = false; flip_x = false; flip_y = flip_y; add_x = add_x; add_y = add_y; level = level }) (x + k) y (u + k) v
+straight-on flip_y add_x add_y level x y u v k traces =
+    let column = traces.column in
+    record { column = omega (arith, ints); row = traces.row }
+
+-- where columns count on, the pixels of a row come from pixels side by side
+pub traces-beside : (t : Trace) (x y u v k : ℕ) → t.swap ≡ false → t.flip_x ≡ false → Traces t x y u v → Traces t (x + k) y (u + k) v
+traces-beside t x y u v k unswapped unflipped traces =
+    let same : t ≡ record { swap = false; flip_x = false; flip_y = t.flip_y; add_x = t.add_x; add_y = t.add_y; level = t.level } =
+    λ i. record { swap = unswapped i; flip_x = unflipped i; flip_y = t.flip_y; add_x = t.add_x; add_y = t.add_y; level = t.level } in
+    subst (λ (s : Trace). Traces s (x + k) y (u + k) v) (sym same)
+    (straight-on t.flip_y t.add_x t.add_y t.level x y u v k (subst (λ (s : Trace). Traces s x y u v) same traces))
+
+-- the pixel's own place, and the one of the last of n
+pub held-first : (p : Cut) (t : Trace) (x y n u v : ℕ) → 0 < n → ((k : ℕ) → k < n → IsHeld p t (x + k) y) → Traces t x y u v → HasPixel p.area u v
+held-first p t x y n u v some held traces =
+    let here : IsHeld p t x y = subst (λ m. IsHeld p t m y) (add-zero x) (held 0 some) in
+    here.held u v traces
+
+pub held-last : (p : Cut) (t : Trace) (x y n u v : ℕ) → 0 < n → t.swap ≡ false → t.flip_x ≡ false → ((k : ℕ) → k < n → IsHeld p t (x + k) y) → Traces t x y u v → u + n ≤ p.area.x + p.area.w
+held-last p t x y n u v some unswapped unflipped held traces =
+    let last : HasPixel p.area (u + (n - 1)) v = (held (n - 1) (omega arith)).held (u + (n - 1)) v (traces-beside t x y u v (n - 1) unswapped unflipped traces) in
+    omega arith
+
+-- the plane's own row is a row of moved pixels
+pub beside-row : (p : Cut) (t : Trace) (x y u v n : ℕ) (row : List ℕ) → p.kind ≡ Rgb → t.swap ≡ false → t.flip_x ≡ false → Traces t x y u v → p.area.x ≤ u → IsOwnRow p u v n row
+    → IsRow (IsMoved p t) x y 3 n row
+beside-row p t x y u v n row rgb unswapped unflipped traces left own =
+    let copied : IsRow (IsCopied p) u v (channels p.kind) n row = copied_row p u v n row own left in
+    let moved : IsRow (IsMoved p t) x y (channels p.kind) n row = record {
+      pixels = λ k below.
+          let pixel = copied.pixels k below in
+          record {
+            answer = pixel.answer;
+            given = given-moved p t (x + k) y (u + k) v pixel.answer (traces-beside t x y u v k unswapped unflipped traces)
+                (pixel.given.pixel ∙ ap (λ kind. pixel_by kind (value_at p (u + k) v)) rgb) pixel.given.top;
+            same = pixel.same;
+          };
+      top = copied.top;
+    } in
+    subst (λ s. IsRow (IsMoved p t) x y s n row) (ap channels rgb) moved

@@ -8,6 +8,8 @@ pub pushed : (count : ℕ) (xs : List (ℕ × ℕ)) (x : ℕ × ℕ) → count �
 pushed count xs x h len rest room =
     let within : count ≤ length xs = omega arith in
     let size = length-take-le count xs within in
-    let fewer : 20 - count - 1 ≡ 20 - (count + 1) = omega arith in
-    (omega arith, length-set xs count x ∙ len,
-    drop-set-lt (count + 1) xs count x (omega arith) ∙ sym (drop-drop 1 count xs) ∙ ap (drop 1) rest ∙ drop-replicate 1 (20 - count) (0, 0) ∙ ap (λ n. replicate n (0, 0)) fewer)
+    let fewer : 20 - count - 1 ≡ 20 - (count + 1) = omega arith in (
+      omega arith,
+      length-set xs count x ∙ len,
+      drop-set-lt (count + 1) xs count x (omega arith) ∙ sym (drop-drop 1 count xs) ∙ ap (drop 1) rest ∙ drop-replicate 1 (20 - count) (0, 0) ∙ ap (λ n. replicate n (0, 0)) fewer,
+    )

@@ -13,7 +13,7 @@ use Rattle.params.specs.Form.{integer, only, is_one_of, three_integers}
 use Rattle.params.specs.Stated.{part_form, parts_form, row_form, key_of, keys_of, pairs_form, Fits, HasLayout, is_row}
 use Rattle.params.specs.Table.{Part, one, three, nine, pairs, flag, Triple}
 use Rattle.params.specs.Ranges.{AreInputs}
-use Rattle.params.specs.Written.{natural_data, integer_data, three_data, pairs_data, part_data, cells_members, row_data}
+use Rattle.params.specs.Written.{natural_data, integer_data, three_data, pairs_data, part_data, cells_members}
 use Rattle.params.specs.declared.row.Cell.{Cell}
 use Rattle.params.specs.declared.row.Layout.{Layout}
 use Rattle.params.specs.declared.row.Layout.TheVariants as layouts

@@ -1,5 +1,5 @@
 -- The derived equality of settings and of blends tells sameness.
-use Rattle.std.proofs.Common.{◌≡◌, ℕ, ℤ, Bool, true, false, ◌&&◌, nat_eq, List, refl, sym, subst, Option, Some, None}
+use Rattle.std.proofs.Common.{◌≡◌, ℕ, ℤ, Bool, true, false, ◌&&◌, nat_eq, List, refl, subst, Option, Some, None}
 use Rattle.std.specs.Bool.{Decides}
 use Rattle.std.specs.Cmp.{unsigned_Decides, signed_Decides}
 use Rattle.std.specs.Cmp.Lexicographic.{pointwise}
@@ -14,30 +14,12 @@ use Rattle.params.specs.declared.blending.Mode.{Mode}
 use Rattle.params.specs.declared.blending.Mode.TheVariants as modes
 use Rattle.params.specs.declared.blending.Shape.{Shape}
 use Rattle.params.specs.declared.blending.Shape.TheVariants as shapes
-use Rattle.params.specs.declared.settings.BoxBlur.{BoxBlur}
-use Rattle.params.specs.declared.settings.ChannelMixer.{ChannelMixer}
-use Rattle.params.specs.declared.settings.Crop.{Crop}
-use Rattle.params.specs.declared.settings.Exposure.{Exposure}
-use Rattle.params.specs.declared.settings.Orientation.{Orientation}
 use Rattle.params.specs.declared.settings.Params.{Params}
 use Rattle.params.specs.declared.settings.Params.TheVariants as params
-use Rattle.params.specs.declared.settings.RawPrepare.{RawPrepare}
-use Rattle.params.specs.declared.settings.Sharpen.{Sharpen}
-use Rattle.params.specs.declared.settings.Temperature.{Temperature}
-use Rattle.params.specs.declared.settings.ToneCurve.{ToneCurve}
 use Rattle.params.specs.contracts.blending.BlendPartialEq.TheImpl as blend_eq
 use Rattle.params.specs.contracts.blending.ModePartialEq.TheImpl as mode_eq
 use Rattle.params.specs.contracts.blending.ShapePartialEq.TheImpl as shape_eq
-use Rattle.params.specs.contracts.settings.BoxBlurPartialEq.TheImpl as blur_eq
-use Rattle.params.specs.contracts.settings.SharpenPartialEq.TheImpl as sharpen_eq
-use Rattle.params.specs.contracts.settings.ChannelMixerPartialEq.TheImpl as mixer_eq
-use Rattle.params.specs.contracts.settings.CropPartialEq.TheImpl as crop_eq
-use Rattle.params.specs.contracts.settings.ExposurePartialEq.TheImpl as exposure_eq
-use Rattle.params.specs.contracts.settings.OrientationPartialEq.TheImpl as orientation_eq
 use Rattle.params.specs.contracts.settings.ParamsPartialEq.TheImpl as params_eq
-use Rattle.params.specs.contracts.settings.RawPreparePartialEq.TheImpl as raw_eq
-use Rattle.params.specs.contracts.settings.TemperaturePartialEq.TheImpl as temperature_eq
-use Rattle.params.specs.contracts.settings.ToneCurvePartialEq.TheImpl as curve_eq
 
 pub both : (a b : Bool) → (a && b) ≡ true → (a ≡ true) × (b ≡ true)
 both true b h = (refl, h)
@@ -60,48 +42,6 @@ truth true true h = refl
 truth false false h = refl
 truth _ _ h = absurd (false≢true h)
 
-raw_same : (x y : RawPrepare) → (raw_eq.ghosts).eq x y ≡ true → x ≡ y
-raw_same x y h =
-    let s = both (pointwise nat_eq x.black y.black) (nat_eq x.white y.white) h in
-    let black = nums x.black y.black s.0 in
-    let white = num x.white y.white s.1 in
-    λ i. record { black = black i; white = white i }
-
-temperature_same : (x y : Temperature) → (temperature_eq.ghosts).eq x y ≡ true → x ≡ y
-temperature_same x y h = let mul = nums x.mul y.mul h in λ i. record { mul = mul i }
-
-orientation_same : (x y : Orientation) → (orientation_eq.ghosts).eq x y ≡ true → x ≡ y
-orientation_same x y h =
-    let s = both (beq x.swap y.swap) (beq x.flip_x y.flip_x && beq x.flip_y y.flip_y) h in
-    let t = both (beq x.flip_x y.flip_x) (beq x.flip_y y.flip_y) s.1 in
-    let swap = truth x.swap y.swap s.0 in
-    let flip_x = truth x.flip_x y.flip_x t.0 in
-    let flip_y = truth x.flip_y y.flip_y t.1 in
-    λ i. record { swap = swap i; flip_x = flip_x i; flip_y = flip_y i }
-
-crop_same : (x y : Crop) → (crop_eq.ghosts).eq x y ≡ true → x ≡ y
-crop_same x y h =
-    let s = both (nat_eq x.left y.left) (nat_eq x.top y.top && (nat_eq x.right y.right && nat_eq x.bottom y.bottom)) h in
-    let t = both (nat_eq x.top y.top) (nat_eq x.right y.right && nat_eq x.bottom y.bottom) s.1 in
-    let u = both (nat_eq x.right y.right) (nat_eq x.bottom y.bottom) t.1 in
-    let left = num x.left y.left s.0 in
-    let top = num x.top y.top t.0 in
-    let right = num x.right y.right u.0 in
-    let bottom = num x.bottom y.bottom u.1 in
-    λ i. record { left = left i; top = top i; right = right i; bottom = bottom i }
-
-exposure_same : (x y : Exposure) → (exposure_eq.ghosts).eq x y ≡ true → x ≡ y
-exposure_same x y h =
-    let s = both (int_eq x.black y.black) (nat_eq x.gain y.gain && int_eq x.stops y.stops) h in
-    let t = both (nat_eq x.gain y.gain) (int_eq x.stops y.stops) s.1 in
-    let black = int x.black y.black s.0 in
-    let gain = num x.gain y.gain t.0 in
-    let stops = int x.stops y.stops t.1 in
-    λ i. record { black = black i; gain = gain i; stops = stops i }
-
-mixer_same : (x y : ChannelMixer) → (mixer_eq.ghosts).eq x y ≡ true → x ≡ y
-mixer_same x y h = let rows = ints x.rows y.rows h in λ i. record { rows = rows i }
-
 node_same : (a b : ℕ × ℕ) → same_node a b ≡ true → a ≡ b
 node_same a b h =
     let s = both (nat_eq a.0 b.0) (nat_eq a.1 b.1) h in
@@ -121,38 +61,52 @@ node-Decides a b = (node_same a b, λ e. subst (λ c. same_node a c ≡ true) e 
 nodes_same : (xs ys : List (ℕ × ℕ)) → same_nodes xs ys ≡ true → xs ≡ ys
 nodes_same xs ys = (slice_eq-Decides node-Decides xs ys (same_nodes xs ys) refl).0
 
-curve_same : (x y : ToneCurve) → (curve_eq.ghosts).eq x y ≡ true → x ≡ y
-curve_same x y h =
+-- equal settings are the same settings
+pub params_same : (x y : Params) → (params_eq.ghosts).eq x y ≡ true → x ≡ y
+params_same (params.RawPrepare x) (params.RawPrepare y) h =
+    let s = both (pointwise nat_eq x.black y.black) (nat_eq x.white y.white) h in
+    let black = nums x.black y.black s.0 in
+    let white = num x.white y.white s.1 in
+    λ i. params.RawPrepare (record { black = black i; white = white i })
+params_same (params.Temperature x) (params.Temperature y) h = let mul = nums x.mul y.mul h in λ i. params.Temperature (record { mul = mul i })
+params_same params.Demosaic params.Demosaic h = refl
+params_same (params.Orientation x) (params.Orientation y) h =
+    let s = both (beq x.swap y.swap) (beq x.flip_x y.flip_x && beq x.flip_y y.flip_y) h in
+    let t = both (beq x.flip_x y.flip_x) (beq x.flip_y y.flip_y) s.1 in
+    let swap = truth x.swap y.swap s.0 in
+    let flip_x = truth x.flip_x y.flip_x t.0 in
+    let flip_y = truth x.flip_y y.flip_y t.1 in
+    λ i. params.Orientation (record { swap = swap i; flip_x = flip_x i; flip_y = flip_y i })
+params_same (params.Crop x) (params.Crop y) h =
+    let s = both (nat_eq x.left y.left) (nat_eq x.top y.top && (nat_eq x.right y.right && nat_eq x.bottom y.bottom)) h in
+    let t = both (nat_eq x.top y.top) (nat_eq x.right y.right && nat_eq x.bottom y.bottom) s.1 in
+    let u = both (nat_eq x.right y.right) (nat_eq x.bottom y.bottom) t.1 in
+    let left = num x.left y.left s.0 in
+    let top = num x.top y.top t.0 in
+    let right = num x.right y.right u.0 in
+    let bottom = num x.bottom y.bottom u.1 in
+    λ i. params.Crop (record { left = left i; top = top i; right = right i; bottom = bottom i })
+params_same (params.Exposure x) (params.Exposure y) h =
+    let s = both (int_eq x.black y.black) (nat_eq x.gain y.gain && int_eq x.stops y.stops) h in
+    let t = both (nat_eq x.gain y.gain) (int_eq x.stops y.stops) s.1 in
+    let black = int x.black y.black s.0 in
+    let gain = num x.gain y.gain t.0 in
+    let stops = int x.stops y.stops t.1 in
+    λ i. params.Exposure (record { black = black i; gain = gain i; stops = stops i })
+params_same (params.ChannelMixer x) (params.ChannelMixer y) h = let rows = ints x.rows y.rows h in λ i. params.ChannelMixer (record { rows = rows i })
+params_same (params.ToneCurve x) (params.ToneCurve y) h =
     let s = both (same_nodes x.red y.red) (same_nodes x.green y.green && same_nodes x.blue y.blue) h in
     let t = both (same_nodes x.green y.green) (same_nodes x.blue y.blue) s.1 in
     let red = nodes_same x.red y.red s.0 in
     let green = nodes_same x.green y.green t.0 in
     let blue = nodes_same x.blue y.blue t.1 in
-    λ i. record { red = red i; green = green i; blue = blue i }
-
-blur_same : (x y : BoxBlur) → (blur_eq.ghosts).eq x y ≡ true → x ≡ y
-blur_same x y h = let radius = num x.radius y.radius h in λ i. record { radius = radius i }
-
-sharpen_same : (x y : Sharpen) → (sharpen_eq.ghosts).eq x y ≡ true → x ≡ y
-sharpen_same x y h =
+    λ i. params.ToneCurve (record { red = red i; green = green i; blue = blue i })
+params_same (params.BoxBlur x) (params.BoxBlur y) h = let radius = num x.radius y.radius h in λ i. params.BoxBlur (record { radius = radius i })
+params_same (params.Sharpen x) (params.Sharpen y) h =
     let s = both (nat_eq x.radius y.radius) (nat_eq x.amount y.amount) h in
     let radius = num x.radius y.radius s.0 in
     let amount = num x.amount y.amount s.1 in
-    λ i. record { radius = radius i; amount = amount i }
-
-
--- equal settings are the same settings
-pub params_same : (x y : Params) → (params_eq.ghosts).eq x y ≡ true → x ≡ y
-params_same (params.RawPrepare x) (params.RawPrepare y) h = let e = raw_same x y h in λ i. params.RawPrepare (e i)
-params_same (params.Temperature x) (params.Temperature y) h = let e = temperature_same x y h in λ i. params.Temperature (e i)
-params_same params.Demosaic params.Demosaic h = refl
-params_same (params.Orientation x) (params.Orientation y) h = let e = orientation_same x y h in λ i. params.Orientation (e i)
-params_same (params.Crop x) (params.Crop y) h = let e = crop_same x y h in λ i. params.Crop (e i)
-params_same (params.Exposure x) (params.Exposure y) h = let e = exposure_same x y h in λ i. params.Exposure (e i)
-params_same (params.ChannelMixer x) (params.ChannelMixer y) h = let e = mixer_same x y h in λ i. params.ChannelMixer (e i)
-params_same (params.ToneCurve x) (params.ToneCurve y) h = let e = curve_same x y h in λ i. params.ToneCurve (e i)
-params_same (params.BoxBlur x) (params.BoxBlur y) h = let e = blur_same x y h in λ i. params.BoxBlur (e i)
-params_same (params.Sharpen x) (params.Sharpen y) h = let e = sharpen_same x y h in λ i. params.Sharpen (e i)
+    λ i. params.Sharpen (record { radius = radius i; amount = amount i })
 params_same _ _ h = absurd (false≢true h)
 
 mode_same : (x y : Mode) → (mode_eq.ghosts).eq x y ≡ true → x ≡ y

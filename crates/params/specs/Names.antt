@@ -1,5 +1,5 @@
 -- The names that scripts give modules, modes and fields.
-use Rattle.std.specs.Prelude.{ℕ, List, [], ◌∷◌, Option, codes}
+use Rattle.std.specs.Prelude.{ℕ, ◌-◌, List, [], ◌∷◌, length, Option, codes}
 use Rattle.params.specs.Form.{named}
 use Rattle.params.specs.Table.{module_row, all_modules}
 use Rattle.params.specs.declared.blending.Mode.{Mode}
@@ -34,6 +34,10 @@ mode_named text = named name_of_mode all_modes text
 -- a module's place among the modules
 abbrev pub number_of : Module → ℕ
 number_of m = (module_row m).number
+
+-- the greatest number of a module
+abbrev pub last_number : ℕ
+last_number = length all_modules - 1
 
 -- a field's name: the key under which it stands
 abbrev pub name_of_field : Field → List ℕ

@@ -1,5 +1,5 @@
 -- Settings as the parts of their row, and the range of each number of them.
-use Rattle.std.specs.Prelude.{◌≡◌, ℕ, zero, suc, ◌+◌, ℤ, pos, negsuc, int_le, ◌≤ℤ◌, ◌≤◌, ◌&&◌, IsTrue, Bool, false, nat_eq, List, [], ◌∷◌, ◌++◌, map, length, slice_index, slice_index_or, option_map, ⊤, Option, Some, None, IfSome, Result, Ok, Err, if◌then◌else◌}
+use Rattle.std.specs.Prelude.{◌≡◌, ℕ, zero, suc, ◌+◌, ℤ, pos, negsuc, int_le, ◌≤ℤ◌, ◌&&◌, IsTrue, Bool, false, nat_eq, List, [], ◌∷◌, map, length, slice_index, slice_index_or, option_map, ⊤, Option, Some, None, IfSome, Result, Ok, Err, if◌then◌else◌}
 use Rattle.std.specs.List.{AllByRecursion}
 use Rattle.params.specs.Form.{natural_of, only_if}
 use Rattle.params.specs.Rules.{first_fault, IsKept}

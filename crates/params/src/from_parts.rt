@@ -13,14 +13,8 @@ use crate::nodes::Nodes20;
 use crate::old::{OldParams, OldVersion};
 use crate::part::{Numbers, Three};
 use crate::row::Cell;
-use crate::rows::{
-    BOX_BLUR, CHANNEL_MIXER, CROP, ELLIPSE, EXPOSURE, EXPOSURE_1, GRADIENT, RAW_PREPARE, SHARPEN,
-    TEMPERATURE, TONE_CURVE, TONE_CURVE_1,
-};
-use crate::settings::{
-    BoxBlur, ChannelMixer, Crop, Exposure, Orientation, Params, RawPrepare, Sharpen, Temperature,
-    ToneCurve,
-};
+use crate::rows;
+use crate::settings::{self, Params};
 
 fn natural(value: i64) -> u32
     requires { IsU32 value }
@@ -163,44 +157,44 @@ pub(crate) fn params_from(module: Module, parts: &[Numbers<'_>]) -> Params
     ensures { result ≡ params_from «module» (all_seen parts.now) }
 {
     match module {
-        Module::RawPrepare => Params::RawPrepare(RawPrepare {
-            black: naturals_at(&RAW_PREPARE, parts, 0),
-            white: natural_at(&RAW_PREPARE, parts, 1),
+        Module::RawPrepare => Params::RawPrepare(settings::RawPrepare {
+            black: naturals_at(&rows::RAW_PREPARE, parts, 0),
+            white: natural_at(&rows::RAW_PREPARE, parts, 1),
         }),
-        Module::Temperature => Params::Temperature(Temperature {
-            mul: naturals_at(&TEMPERATURE, parts, 0),
+        Module::Temperature => Params::Temperature(settings::Temperature {
+            mul: naturals_at(&rows::TEMPERATURE, parts, 0),
         }),
         Module::Demosaic => Params::Demosaic,
-        Module::Orientation => Params::Orientation(Orientation {
+        Module::Orientation => Params::Orientation(settings::Orientation {
             swap: flag_at(parts, 0),
             flip_x: flag_at(parts, 1),
             flip_y: flag_at(parts, 2),
         }),
-        Module::Crop => Params::Crop(Crop {
-            left: natural_at(&CROP, parts, 0),
-            top: natural_at(&CROP, parts, 1),
-            right: natural_at(&CROP, parts, 2),
-            bottom: natural_at(&CROP, parts, 3),
+        Module::Crop => Params::Crop(settings::Crop {
+            left: natural_at(&rows::CROP, parts, 0),
+            top: natural_at(&rows::CROP, parts, 1),
+            right: natural_at(&rows::CROP, parts, 2),
+            bottom: natural_at(&rows::CROP, parts, 3),
         }),
-        Module::Exposure => Params::Exposure(Exposure {
-            black: signed_at(&EXPOSURE, parts, 0),
-            gain: natural_at(&EXPOSURE, parts, 1),
-            stops: signed_at(&EXPOSURE, parts, 2),
+        Module::Exposure => Params::Exposure(settings::Exposure {
+            black: signed_at(&rows::EXPOSURE, parts, 0),
+            gain: natural_at(&rows::EXPOSURE, parts, 1),
+            stops: signed_at(&rows::EXPOSURE, parts, 2),
         }),
-        Module::ChannelMixer => Params::ChannelMixer(ChannelMixer {
-            rows: matrix_at(&CHANNEL_MIXER, parts, 0),
+        Module::ChannelMixer => Params::ChannelMixer(settings::ChannelMixer {
+            rows: matrix_at(&rows::CHANNEL_MIXER, parts, 0),
         }),
-        Module::ToneCurve => Params::ToneCurve(ToneCurve {
-            red: nodes_at(&TONE_CURVE, parts, 0),
-            green: nodes_at(&TONE_CURVE, parts, 1),
-            blue: nodes_at(&TONE_CURVE, parts, 2),
+        Module::ToneCurve => Params::ToneCurve(settings::ToneCurve {
+            red: nodes_at(&rows::TONE_CURVE, parts, 0),
+            green: nodes_at(&rows::TONE_CURVE, parts, 1),
+            blue: nodes_at(&rows::TONE_CURVE, parts, 2),
         }),
-        Module::BoxBlur => Params::BoxBlur(BoxBlur {
-            radius: natural_at(&BOX_BLUR, parts, 0),
+        Module::BoxBlur => Params::BoxBlur(settings::BoxBlur {
+            radius: natural_at(&rows::BOX_BLUR, parts, 0),
         }),
-        Module::Sharpen => Params::Sharpen(Sharpen {
-            radius: natural_at(&SHARPEN, parts, 0),
-            amount: natural_at(&SHARPEN, parts, 1),
+        Module::Sharpen => Params::Sharpen(settings::Sharpen {
+            radius: natural_at(&rows::SHARPEN, parts, 0),
+            amount: natural_at(&rows::SHARPEN, parts, 1),
         }),
     }
 }
@@ -212,11 +206,11 @@ pub(crate) fn old_from(old: OldVersion, parts: &[Numbers<'_>]) -> OldParams
 {
     match old {
         OldVersion::Exposure1 => OldParams::Exposure1 {
-            black: signed_at(&EXPOSURE_1, parts, 0),
-            gain: natural_at(&EXPOSURE_1, parts, 1),
+            black: signed_at(&rows::EXPOSURE_1, parts, 0),
+            gain: natural_at(&rows::EXPOSURE_1, parts, 1),
         },
         OldVersion::ToneCurve1 => OldParams::ToneCurve1 {
-            nodes: nodes_at(&TONE_CURVE_1, parts, 0),
+            nodes: nodes_at(&rows::TONE_CURVE_1, parts, 0),
         },
     }
 }
@@ -228,20 +222,20 @@ pub(crate) fn shape_from(kind: MaskKind, parts: &[Numbers<'_>]) -> Shape
 {
     match kind {
         MaskKind::Gradient => Shape::Gradient {
-            ax: natural_at(&GRADIENT, parts, 0),
-            ay: natural_at(&GRADIENT, parts, 1),
-            dx: signed_at(&GRADIENT, parts, 2),
-            dy: signed_at(&GRADIENT, parts, 3),
-            slope: natural_at(&GRADIENT, parts, 4),
+            ax: natural_at(&rows::GRADIENT, parts, 0),
+            ay: natural_at(&rows::GRADIENT, parts, 1),
+            dx: signed_at(&rows::GRADIENT, parts, 2),
+            dy: signed_at(&rows::GRADIENT, parts, 3),
+            slope: natural_at(&rows::GRADIENT, parts, 4),
         },
         MaskKind::Ellipse => Shape::Ellipse {
-            cx: natural_at(&ELLIPSE, parts, 0),
-            cy: natural_at(&ELLIPSE, parts, 1),
-            ux: signed_at(&ELLIPSE, parts, 2),
-            uy: signed_at(&ELLIPSE, parts, 3),
-            a: natural_at(&ELLIPSE, parts, 4),
-            b: natural_at(&ELLIPSE, parts, 5),
-            feather: natural_at(&ELLIPSE, parts, 6),
+            cx: natural_at(&rows::ELLIPSE, parts, 0),
+            cy: natural_at(&rows::ELLIPSE, parts, 1),
+            ux: signed_at(&rows::ELLIPSE, parts, 2),
+            uy: signed_at(&rows::ELLIPSE, parts, 3),
+            a: natural_at(&rows::ELLIPSE, parts, 4),
+            b: natural_at(&rows::ELLIPSE, parts, 5),
+            feather: natural_at(&rows::ELLIPSE, parts, 6),
         },
     }
 }

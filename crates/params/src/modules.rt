@@ -5,10 +5,7 @@ ghost use Rattle.params.specs.Seen.{module_seen};
 ghost use Rattle.params.specs.Table.{module_row, row_of, all_modules};
 
 use crate::row::Cell;
-use crate::rows::{
-    BOX_BLUR, CHANNEL_MIXER, CROP, DEMOSAIC, EXPOSURE, ORIENTATION, RAW_PREPARE, SHARPEN,
-    TEMPERATURE, TONE_CURVE,
-};
+use crate::rows;
 
 /// What edits a picture. A module instance is one of these with a number that tells instances apart. The
 /// first eight stand in the start order.
@@ -72,16 +69,16 @@ impl Module {
         ensures { module_seen result ≡ module_row self }
     {
         match self {
-            Module::RawPrepare => row!(0, "rawprepare", 1, false, true, &RAW_PREPARE),
-            Module::Temperature => row!(1, "temperature", 1, false, true, &TEMPERATURE),
-            Module::Demosaic => row!(2, "demosaic", 1, false, false, &DEMOSAIC),
-            Module::Orientation => row!(3, "orientation", 1, false, true, &ORIENTATION),
-            Module::Crop => row!(4, "crop", 1, false, true, &CROP),
-            Module::Exposure => row!(5, "exposure", 2, true, true, &EXPOSURE),
-            Module::ChannelMixer => row!(6, "channelmixer", 1, true, true, &CHANNEL_MIXER),
-            Module::ToneCurve => row!(7, "tonecurve", 2, true, true, &TONE_CURVE),
-            Module::BoxBlur => row!(8, "boxblur", 1, true, true, &BOX_BLUR),
-            Module::Sharpen => row!(9, "sharpen", 1, true, true, &SHARPEN),
+            Module::RawPrepare => row!(0, "rawprepare", 1, false, true, &rows::RAW_PREPARE),
+            Module::Temperature => row!(1, "temperature", 1, false, true, &rows::TEMPERATURE),
+            Module::Demosaic => row!(2, "demosaic", 1, false, false, &rows::DEMOSAIC),
+            Module::Orientation => row!(3, "orientation", 1, false, true, &rows::ORIENTATION),
+            Module::Crop => row!(4, "crop", 1, false, true, &rows::CROP),
+            Module::Exposure => row!(5, "exposure", 2, true, true, &rows::EXPOSURE),
+            Module::ChannelMixer => row!(6, "channelmixer", 1, true, true, &rows::CHANNEL_MIXER),
+            Module::ToneCurve => row!(7, "tonecurve", 2, true, true, &rows::TONE_CURVE),
+            Module::BoxBlur => row!(8, "boxblur", 1, true, true, &rows::BOX_BLUR),
+            Module::Sharpen => row!(9, "sharpen", 1, true, true, &rows::SHARPEN),
         }
     }
 

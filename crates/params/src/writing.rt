@@ -20,11 +20,7 @@ use std::alloc::{AllocError, Global};
 fn params_data(alloc: Global, params: &Params) -> Result<Value, AllocError>
     ensures { IfOk result (λ v. view v ≡ params_data params.now) }
 {
-    row_data(
-        alloc,
-        params.module().cells(),
-        parts_of(params).as_slice(),
-    )
+    row_data(alloc, params.module().cells(), parts_of(params).as_slice())
 }
 
 /// The JSON form of settings that are within their ranges, in the newest version of their module. Read
@@ -67,11 +63,7 @@ fn mask_data(alloc: Global, mask: &Option<Shape>) -> Result<Value, AllocError>
     }
 }
 
-fn blend_members(
-    alloc: Global,
-    mask: Value,
-    mode: Mode,
-) -> Result<Map<String, Value>, AllocError>
+fn blend_members(alloc: Global, mask: Value, mode: Mode) -> Result<Map<String, Value>, AllocError>
     ensures { IfOk result (λ m. members_view m.entries ≡ blend_members (view mask) mode) }
 {
     let mut members = Map::new(alloc);

@@ -63,11 +63,16 @@ const WITHOUT_FORM: [&str; 33] = [
     "{\"steps\":[],\"history\":{\"items\":[],\"end\":0}}",
     "{\"steps\":[],\"history\":{\"items\":[],\"end\":65536,\"order\":[]}}",
     "{\"steps\":[],\"history\":{\"items\":[],\"end\":0,\"order\":[[\"crop\",256]]}}",
-    "{\"steps\":[],\"history\":{\"items\":[],\"end\":0,\"order\":[[\"sharpen\",0]]}}",
+    "{\"steps\":[],\"history\":{\"items\":[],\"end\":0,\"order\":[[\"blur\",0]]}}",
     "{\"steps\":[],\"history\":{\"items\":[{\"module\":\"exposure\",\"params\":{\"black\":0,\"gain\":65537}},{}],\"end\":0,\"order\":[]}}",
 ];
 
-const STEPS_WITHOUT_FORM: [&str; 30] = [
+const STEPS_WITHOUT_FORM: [&str; 35] = [
+    "{\"do\":\"set\",\"module\":\"crop\",\"version\":2,\"params\":{\"left\":0,\"top\":0,\"right\":1,\"bottom\":1}}",
+    "{\"do\":\"set\",\"module\":\"exposure\",\"version\":2,\"params\":{\"black\":0,\"gain\":1}}",
+    "{\"do\":\"set\",\"module\":\"exposure\",\"version\":3,\"params\":{\"black\":0,\"gain\":1,\"stops\":0}}",
+    "{\"do\":\"set\",\"module\":\"exposure\",\"version\":null,\"params\":{\"black\":0,\"gain\":1}}",
+    "{\"do\":\"set\",\"module\":\"exposure\",\"params\":{\"black\":0,\"gain\":1,\"stops\":0}}",
     "[]",
     "{}",
     "{\"do\":\"again\"}",
@@ -100,7 +105,16 @@ const STEPS_WITHOUT_FORM: [&str; 30] = [
     "{\"do\":\"thumbnail\",\"box\":[720,721]}",
 ];
 
-const REFUSED: [(&str, u32, Reason); 22] = [
+const REFUSED: [(&str, u32, Reason); 23] = [
+    (
+        "{\"steps\":[{\"do\":\"set\",\"module\":\"exposure\",\"version\":2,\"params\":{\"black\":0,\"gain\":1,\"stops\":5}}]}",
+        1,
+        Reason::Param(ParamFault {
+            field: Field::Stops,
+            at: 0,
+            value: 5,
+        }),
+    ),
     ("{", 0, Reason::Text),
     (
         "{\"steps\":[],\"history\":{\"items\":[{\"module\":\"exposure\",\"params\":{\"black\":0,\"gain\":65537}}],\"end\":9,\"order\":[[\"crop\",0]]}}",
@@ -234,13 +248,20 @@ const REFUSED: [(&str, u32, Reason); 22] = [
 ];
 
 const WHOLE: &str =
-    "{\"history\":{\"end\":1,\"items\":[{\"blend\":{\"mask\":{\"a\":4,\"b\":5,\"cx\":1,\"cy\":2,\"feather\":6,\"shape\":\"ellipse\",\"ux\":-1,\"uy\":0},\"mode\":\"screen\",\"opacity\":65536},\"enabled\":false,\"instance\":1,\"module\":\"tonecurve\",\"params\":{\"nodes\":[[0,0],[9,8]]}}],\"order\":[[\"rawprepare\",0],[\"temperature\",0],[\"demosaic\",0],[\"tonecurve\",1],[\"exposure\",0]]},\"settings\":{\"cfa\":\"GBRG\",\"depth\":16,\"mip_slots\":1,\"preview_side\":64,\"second\":{\"cx\":65536,\"cy\":0,\"factor\":2,\"h\":1,\"w\":2},\"stage_entries\":1,\"stage_pixels\":0,\"undo_depth\":64,\"view\":{\"cx\":0,\"cy\":65536,\"factor\":64,\"h\":48,\"w\":16384},\"workers\":4},\"steps\":[{\"blend\":null,\"do\":\"set\",\"enabled\":true,\"instance\":0,\"module\":\"exposure\",\"params\":{\"black\":-65535,\"gain\":65536}},{\"do\":\"select\",\"end\":1},{\"do\":\"add\",\"instance\":255,\"module\":\"crop\",\"place\":3},{\"do\":\"move\",\"instance\":255,\"module\":\"crop\",\"place\":5},{\"do\":\"delete\",\"instance\":255,\"module\":\"crop\"},{\"cx\":0,\"cy\":0,\"do\":\"view\",\"factor\":1,\"h\":1,\"w\":1},{\"cx\":1,\"cy\":2,\"do\":\"second\",\"factor\":64,\"h\":3,\"w\":4},{\"do\":\"undo\"},{\"do\":\"redo\"},{\"box\":[16384,1],\"depth\":16,\"do\":\"export\"},{\"box\":[1,720],\"do\":\"thumbnail\"},{\"do\":\"compress\"},{\"do\":\"settle\"}]}";
+    "{\"history\":{\"end\":1,\"items\":[{\"blend\":{\"mask\":{\"a\":4,\"b\":5,\"cx\":1,\"cy\":2,\"feather\":6,\"shape\":\"ellipse\",\"ux\":-1,\"uy\":0},\"mode\":\"screen\",\"opacity\":65536},\"enabled\":false,\"instance\":1,\"module\":\"tonecurve\",\"params\":{\"blue\":[[0,1],[9,8]],\"green\":[[0,0],[9,8]],\"red\":[[5,5],[6,7]]},\"version\":2}],\"order\":[[\"rawprepare\",0],[\"temperature\",0],[\"demosaic\",0],[\"tonecurve\",1],[\"exposure\",0]]},\"settings\":{\"cfa\":\"GBRG\",\"depth\":16,\"mip_slots\":1,\"preview_side\":64,\"second\":{\"cx\":65536,\"cy\":0,\"factor\":2,\"h\":1,\"w\":2},\"stage_entries\":1,\"stage_pixels\":0,\"undo_depth\":64,\"view\":{\"cx\":0,\"cy\":65536,\"factor\":64,\"h\":48,\"w\":16384},\"workers\":4},\"steps\":[{\"blend\":null,\"do\":\"set\",\"enabled\":true,\"instance\":0,\"module\":\"exposure\",\"params\":{\"black\":-65535,\"gain\":65536,\"stops\":-4},\"version\":2},{\"do\":\"select\",\"end\":1},{\"do\":\"add\",\"instance\":255,\"module\":\"crop\",\"place\":3},{\"do\":\"move\",\"instance\":255,\"module\":\"crop\",\"place\":5},{\"do\":\"delete\",\"instance\":255,\"module\":\"crop\"},{\"cx\":0,\"cy\":0,\"do\":\"view\",\"factor\":1,\"h\":1,\"w\":1},{\"cx\":1,\"cy\":2,\"do\":\"second\",\"factor\":64,\"h\":3,\"w\":4},{\"do\":\"undo\"},{\"do\":\"redo\"},{\"box\":[16384,1],\"depth\":16,\"do\":\"export\"},{\"box\":[1,720],\"do\":\"thumbnail\"},{\"do\":\"compress\"},{\"do\":\"settle\"}]}";
 
 const LEAST: &str =
     "{\"steps\":[{\"do\":\"set\",\"module\":\"exposure\",\"params\":{\"gain\":1,\"black\":0}},{\"do\":\"export\"}]}";
 
 const LEAST_WITH_DEFAULTS: &str =
-    "{\"history\":{\"end\":0,\"items\":[],\"order\":[[\"rawprepare\",0],[\"temperature\",0],[\"demosaic\",0],[\"orientation\",0],[\"crop\",0],[\"exposure\",0],[\"channelmixer\",0],[\"tonecurve\",0]]},\"settings\":{\"cfa\":null,\"depth\":8,\"mip_slots\":4,\"preview_side\":720,\"second\":null,\"stage_entries\":16,\"stage_pixels\":8388608,\"undo_depth\":32,\"view\":{\"cx\":32768,\"cy\":32768,\"factor\":1,\"h\":480,\"w\":720},\"workers\":2},\"steps\":[{\"blend\":null,\"do\":\"set\",\"enabled\":true,\"instance\":0,\"module\":\"exposure\",\"params\":{\"black\":0,\"gain\":1}},{\"box\":null,\"depth\":8,\"do\":\"export\"}]}";
+    "{\"history\":{\"end\":0,\"items\":[],\"order\":[[\"rawprepare\",0],[\"temperature\",0],[\"demosaic\",0],[\"orientation\",0],[\"crop\",0],[\"exposure\",0],[\"channelmixer\",0],[\"tonecurve\",0]]},\"settings\":{\"cfa\":null,\"depth\":8,\"mip_slots\":4,\"preview_side\":720,\"second\":null,\"stage_entries\":16,\"stage_pixels\":8388608,\"undo_depth\":32,\"view\":{\"cx\":32768,\"cy\":32768,\"factor\":1,\"h\":480,\"w\":720},\"workers\":2},\"steps\":[{\"blend\":null,\"do\":\"set\",\"enabled\":true,\"instance\":0,\"module\":\"exposure\",\"params\":{\"black\":0,\"gain\":1,\"stops\":0},\"version\":2},{\"box\":null,\"depth\":8,\"do\":\"export\"}]}";
+
+/// Eight edits, of version 1 where a module has two.
+const EIGHT: &str =
+    "{\"steps\":[{\"do\":\"set\",\"module\":\"exposure\",\"params\":{\"black\":0,\"gain\":8192}},{\"do\":\"set\",\"module\":\"channelmixer\",\"params\":{\"rows\":[[4096,0,0],[0,4096,0],[0,0,4096]]}},{\"do\":\"set\",\"module\":\"tonecurve\",\"params\":{\"nodes\":[[0,0],[1048575,1048575]]}},{\"do\":\"select\",\"end\":1},{\"do\":\"set\",\"module\":\"exposure\",\"params\":{\"black\":0,\"gain\":2048}},{\"do\":\"set\",\"module\":\"temperature\",\"params\":{\"mul\":[4096,4096,4096]}},{\"do\":\"set\",\"module\":\"exposure\",\"params\":{\"black\":0,\"gain\":4096}},{\"do\":\"compress\"}]}";
+
+const EIGHT_WRITTEN: &str =
+    "{\"history\":{\"end\":0,\"items\":[],\"order\":[[\"rawprepare\",0],[\"temperature\",0],[\"demosaic\",0],[\"orientation\",0],[\"crop\",0],[\"exposure\",0],[\"channelmixer\",0],[\"tonecurve\",0]]},\"settings\":{\"cfa\":null,\"depth\":8,\"mip_slots\":4,\"preview_side\":720,\"second\":null,\"stage_entries\":16,\"stage_pixels\":8388608,\"undo_depth\":32,\"view\":{\"cx\":32768,\"cy\":32768,\"factor\":1,\"h\":480,\"w\":720},\"workers\":2},\"steps\":[{\"blend\":null,\"do\":\"set\",\"enabled\":true,\"instance\":0,\"module\":\"exposure\",\"params\":{\"black\":0,\"gain\":8192,\"stops\":0},\"version\":2},{\"blend\":null,\"do\":\"set\",\"enabled\":true,\"instance\":0,\"module\":\"channelmixer\",\"params\":{\"rows\":[[4096,0,0],[0,4096,0],[0,0,4096]]},\"version\":1},{\"blend\":null,\"do\":\"set\",\"enabled\":true,\"instance\":0,\"module\":\"tonecurve\",\"params\":{\"blue\":[[0,0],[1048575,1048575]],\"green\":[[0,0],[1048575,1048575]],\"red\":[[0,0],[1048575,1048575]]},\"version\":2},{\"do\":\"select\",\"end\":1},{\"blend\":null,\"do\":\"set\",\"enabled\":true,\"instance\":0,\"module\":\"exposure\",\"params\":{\"black\":0,\"gain\":2048,\"stops\":0},\"version\":2},{\"blend\":null,\"do\":\"set\",\"enabled\":true,\"instance\":0,\"module\":\"temperature\",\"params\":{\"mul\":[4096,4096,4096]},\"version\":1},{\"blend\":null,\"do\":\"set\",\"enabled\":true,\"instance\":0,\"module\":\"exposure\",\"params\":{\"black\":0,\"gain\":4096,\"stops\":0},\"version\":2},{\"do\":\"compress\"}]}";
 
 #[test]
 fn values_without_the_form_are_told_apart_from_other_faults(rt: HostRuntime) -> Result<(), Fail> {
@@ -332,5 +353,16 @@ fn a_script_is_written_with_every_key(rt: HostRuntime) -> Result<(), Fail> {
     assert!(rt; whole.as_slice() == WHOLE.as_bytes());
     let least = write(alloc, &read(alloc, LEAST.as_bytes())?)?;
     assert!(rt; least.as_slice() == LEAST_WITH_DEFAULTS.as_bytes());
+    Ok(())
+}
+
+// What is written for eight edits has the newest versions, and is read again as the same edits.
+#[test]
+fn eight_edits_are_written_with_their_versions_and_read_again(rt: HostRuntime) -> Result<(), Fail> {
+    let alloc = rt.alloc();
+    let written = write(alloc, &read(alloc, EIGHT.as_bytes())?)?;
+    assert!(rt; written.as_slice() == EIGHT_WRITTEN.as_bytes());
+    let again = write(alloc, &read(alloc, &written)?)?;
+    assert!(rt; again.as_slice() == EIGHT_WRITTEN.as_bytes());
     Ok(())
 }

@@ -26,8 +26,8 @@ use Rattle.dev_core.proofs.OwnLemmas.{says_now, job_of-push, job_of-mine, job_of
 use Rattle.stepped.specs.declared.event.Answer.TheVariants.{Done, Moment}
 use Rattle.stepped.specs.declared.event.Event.TheVariants as event
 use Rattle.stepped.specs.declared.open_run.OpenRun.{OpenRun}
-use Rattle.stepped.specs.Machine.{run_seen, core_seen, run_at, job_at, IsFrameOf, IsOpen, AreOpen, Keeps}
-use Rattle.stepped.specs.Step.{Run, Core, HasRun, IsWorker, IsAllowed, run_of, copies, core_of, last_worker, with_run, with_entries, has_step, for_pipe, fresh, restarted, published, after, answer_to}
+use Rattle.stepped.specs.Machine.{run_seen, core_seen, run_at, job_at, IsFrameOf, IsOpen, AreOpen, AreSeated}
+use Rattle.stepped.specs.Step.{Run, Core, HasRun, IsWorker, IsAllowed, run_of, copies, core_of, last_worker, with_run, with_entries, has_step, for_pipe, fresh, restarted, published, core_after, answer_to}
 
 -- a run that the machine has is the state's
 pub run_of_seen : (desk : DeskSeen) (runs : List (Option OpenRun)) (w : ℕ) → run_of (core_seen desk runs) w ≡ option_map run_seen (run_at runs w)
@@ -198,16 +198,16 @@ unchanged runs runs1 runs2 w o is out back =
 pub free_then : (runs runs1 : List (Option OpenRun)) (w : ℕ) → runs1 ≡ slice_set runs w None → w < length runs → run_at runs1 w ≡ None
 free_then runs runs1 w out within = ap (λ rs. run_at rs w) out ∙ seat_same runs w None within
 
-pub keeps_unchanged : (desk : DeskSeen) (runs runs1 runs2 : List (Option OpenRun)) (w : ℕ) (o : OpenRun) → Keeps desk runs → run_at runs w ≡ Some o
-    → runs1 ≡ slice_set runs w None → runs2 ≡ slice_set runs1 w (Some o) → Keeps desk runs2
-keeps_unchanged desk runs runs1 runs2 w o k is out back = subst (Keeps desk) (sym (unchanged runs runs1 runs2 w o is out back)) k
+pub seated_unchanged : (desk : DeskSeen) (runs runs1 runs2 : List (Option OpenRun)) (w : ℕ) (o : OpenRun) → AreSeated desk runs → run_at runs w ≡ Some o
+    → runs1 ≡ slice_set runs w None → runs2 ≡ slice_set runs1 w (Some o) → AreSeated desk runs2
+seated_unchanged desk runs runs1 runs2 w o k is out back = subst (AreSeated desk) (sym (unchanged runs runs1 runs2 w o is out back)) k
 
-pub keeps_changed : (desk : DeskSeen) (runs runs1 runs2 : List (Option OpenRun)) (w : ℕ) (o x : OpenRun) → Keeps desk runs → run_at runs w ≡ Some o
-    → runs1 ≡ slice_set runs w None → runs2 ≡ slice_set runs1 w (Some x) → x.job ≡ o.job → IsFrameOf x.frame o.job → Keeps desk runs2
-keeps_changed desk runs runs1 runs2 w o x k is out back same frame =
+pub seated_changed : (desk : DeskSeen) (runs runs1 runs2 : List (Option OpenRun)) (w : ℕ) (o x : OpenRun) → AreSeated desk runs → run_at runs w ≡ Some o
+    → runs1 ≡ slice_set runs w None → runs2 ≡ slice_set runs1 w (Some x) → x.job ≡ o.job → IsFrameOf x.frame o.job → AreSeated desk runs2
+seated_changed desk runs runs1 runs2 w o x k is out back same frame =
     let all = put_back runs runs1 runs2 w (Some x) out back in
     let mine = k.are_open.open_runs w o is in
-    subst (Keeps desk) (sym all) (record {
+    subst (AreSeated desk) (sym all) (record {
       seats = length-set runs w (Some x) ∙ k.seats;
       are_open = open_changed desk runs w o x k.are_open is (ap (λ (j : JobSeen). Some (record { job = j.name; moment = j.moment })) same)
           (record {
@@ -217,16 +217,16 @@ keeps_changed desk runs runs1 runs2 w o x k is out back same frame =
           });
     })
 
-pub keeps_edited : (desk desk' : DeskSeen) (runs : List (Option OpenRun)) (e : Entry) → Keeps desk runs → May desk.subject.script (now desk) e
-    → ((has : Option Line) → job_after has e ≡ has) → desk' ≡ with_entry desk e → Keeps desk' runs
-keeps_edited desk desk' runs e k may same entered =
-    subst (λ d. Keeps d runs) (sym entered) (record { seats = k.seats; are_open = open_edited desk runs e k.are_open may same })
+pub seated_edited : (desk desk' : DeskSeen) (runs : List (Option OpenRun)) (e : Entry) → AreSeated desk runs → May desk.subject.script (now desk) e
+    → ((has : Option Line) → job_after has e ≡ has) → desk' ≡ with_entry desk e → AreSeated desk' runs
+seated_edited desk desk' runs e k may same entered =
+    subst (λ d. AreSeated d runs) (sym entered) (record { seats = k.seats; are_open = open_edited desk runs e k.are_open may same })
 
-keeps_entered : (desk desk' : DeskSeen) (runs runs' : List (Option OpenRun)) (e : Entry) (w : ℕ) (x : Option OpenRun) → Keeps desk runs → w < length runs
+seated_entered : (desk desk' : DeskSeen) (runs runs' : List (Option OpenRun)) (e : Entry) (w : ℕ) (x : Option OpenRun) → AreSeated desk runs → w < length runs
     → worker_of e ≡ w → May desk.subject.script (now desk) e → job_at x ≡ job_after (job_of w desk.journal) e → ((o : OpenRun) → x ≡ Some o → IsOpen desk w o)
-    → desk' ≡ with_entry desk e → runs' ≡ slice_set runs w x → Keeps desk' runs'
-keeps_entered desk desk' runs runs' e w x k within mine may same open_x entered all =
-    subst (λ d. Keeps d runs') (sym entered) (subst (Keeps (with_entry desk e)) (sym all) (record {
+    → desk' ≡ with_entry desk e → runs' ≡ slice_set runs w x → AreSeated desk' runs'
+seated_entered desk desk' runs runs' e w x k within mine may same open_x entered all =
+    subst (λ d. AreSeated d runs') (sym entered) (subst (AreSeated (with_entry desk e)) (sym all) (record {
       seats = length-set runs w x ∙ k.seats;
       are_open = open_entered desk runs e w x k.are_open within mine may same open_x;
     }))
@@ -237,13 +237,13 @@ some_same a b e = cc
 none_open : (o : OpenRun) → ◌≡◌ {A = Option OpenRun} None (Some o) → ⊥
 none_open o e = cc
 
-pub keeps_took : (desk desk' : DeskSeen) (runs runs' : List (Option OpenRun)) (w : ℕ) (p : Pipe) (j : JobSeen) → Keeps desk runs
+pub seated_took : (desk desk' : DeskSeen) (runs runs' : List (Option OpenRun)) (w : ℕ) (p : Pipe) (j : JobSeen) → AreSeated desk runs
     → IsAllowed (core_seen desk runs) (event.Take w p)
     → desk' ≡ with_entry desk (entry.Took p w (now desk).moment)
     → j ≡ record { subject = desk.subject; name = job.Pipe p; worker = w; moment = (now desk).moment }
-    → runs' ≡ slice_set runs w (Some (record { job = j; stage = None; frame = None })) → Keeps desk' runs'
-keeps_took desk desk' runs runs' w p j k allowed entered is all =
-    keeps_entered desk desk' runs runs' (entry.Took p w (now desk).moment) w (Some (record { job = j; stage = None; frame = None })) k
+    → runs' ≡ slice_set runs w (Some (record { job = j; stage = None; frame = None })) → AreSeated desk' runs'
+seated_took desk desk' runs runs' w p j k allowed entered is all =
+    seated_entered desk desk' runs runs' (entry.Took p w (now desk).moment) w (Some (record { job = j; stage = None; frame = None })) k
     (omega (arith, allowed.0, k.seats)) refl (allowed.1, allowed.2, refl)
     (ap (λ (i : JobSeen). Some (record { job = i.name; moment = i.moment })) is)
     (λ o same.
@@ -251,25 +251,25 @@ keeps_took desk desk' runs runs' w p j k allowed entered is all =
     subst (IsOpen desk w) one (record { subject = ap (λ (i : JobSeen). i.subject) is; worker = ap (λ (i : JobSeen). i.worker) is; frame = tt }))
     entered all
 
-pub keeps_published : (desk desk' : DeskSeen) (runs runs' : List (Option OpenRun)) (w : ℕ) (o : OpenRun) → Keeps desk runs → run_at runs w ≡ Some o
+pub seated_published : (desk desk' : DeskSeen) (runs runs' : List (Option OpenRun)) (w : ℕ) (o : OpenRun) → AreSeated desk runs → run_at runs w ≡ Some o
     → OfPipe o.job.name (λ p. desk' ≡ with_entry desk (entry.Published p o.job.worker o.job.moment))
-    → runs' ≡ slice_set runs w None → Keeps desk' runs'
-keeps_published desk desk' runs runs' w o k is entered all =
+    → runs' ≡ slice_set runs w None → AreSeated desk' runs'
+seated_published desk desk' runs runs' w o k is entered all =
     let mine = k.are_open.open_runs w o is in
     for_each_pipe o.job.name _ _ _ entered (held_job (now desk) w o.job.worker o.job.name o.job.moment mine.worker (holds_run desk runs k.are_open w o is))
-    (λ p pipe one held. keeps_entered desk desk' runs runs' (entry.Published p o.job.worker o.job.moment) w None k (run_within runs w o is) mine.worker held refl
+    (λ p pipe one held. seated_entered desk desk' runs runs' (entry.Published p o.job.worker o.job.moment) w None k (run_within runs w o is) mine.worker held refl
     (λ x same. absurd (none_open x same)) one all)
 
-pub keeps_restarted : (desk desk' : DeskSeen) (runs runs1 runs2 : List (Option OpenRun)) (w : ℕ) (o : OpenRun) (j : JobSeen) → Keeps desk runs → run_at runs w ≡ Some o
+pub seated_restarted : (desk desk' : DeskSeen) (runs runs1 runs2 : List (Option OpenRun)) (w : ℕ) (o : OpenRun) (j : JobSeen) → AreSeated desk runs → run_at runs w ≡ Some o
     → OfPipe o.job.name (λ p. Later desk.subject.script p o.job.moment (now desk).moment)
     → OfPipe o.job.name (λ p. desk' ≡ with_entry desk (entry.Restarted p o.job.worker (now desk).moment))
     → j ≡ record o.job { moment = (now desk).moment }
-    → runs1 ≡ slice_set runs w None → runs2 ≡ slice_set runs1 w (Some (record { job = j; stage = None; frame = None })) → Keeps desk' runs2
-keeps_restarted desk desk' runs runs1 runs2 w o j k is later entered anew out back =
+    → runs1 ≡ slice_set runs w None → runs2 ≡ slice_set runs1 w (Some (record { job = j; stage = None; frame = None })) → AreSeated desk' runs2
+seated_restarted desk desk' runs runs1 runs2 w o j k is later entered anew out back =
     let mine = k.are_open.open_runs w o is in
     for_each_pipe o.job.name _ _ _ entered
     (superseded_job desk.subject.script (now desk) w o.job.worker o.job.name o.job.moment mine.worker (holds_run desk runs k.are_open w o is) later)
-    (λ p pipe one gone. keeps_entered desk desk' runs runs2 (entry.Restarted p o.job.worker (now desk).moment) w (Some (record { job = j; stage = None; frame = None })) k
+    (λ p pipe one gone. seated_entered desk desk' runs runs2 (entry.Restarted p o.job.worker (now desk).moment) w (Some (record { job = j; stage = None; frame = None })) k
     (run_within runs w o is) mine.worker (o.job.moment, gone, refl)
     (ap (λ (i : JobSeen). Some (record { job = i.name; moment = i.moment })) anew ∙ ap (λ n. Some (record { job = n; moment = (now desk).moment })) pipe)
     (λ x same.
@@ -299,32 +299,32 @@ changed_seen desk runs runs1 runs2 w o x f is out back same =
     ap (core_seen desk) (put_back runs runs1 runs2 w (Some x) out back)
     ∙ ap (λ rs. record { subject = desk.subject; journal = desk.journal; runs = rs }) (seen_run runs desk w o x f is same)
 
-pub published_seen : (desk desk' : DeskSeen) (runs runs' : List (Option OpenRun)) (w : ℕ) (o : OpenRun) → Keeps desk runs → run_at runs w ≡ Some o
+pub published_seen : (desk desk' : DeskSeen) (runs runs' : List (Option OpenRun)) (w : ℕ) (o : OpenRun) → AreSeated desk runs → run_at runs w ≡ Some o
     → OfPipe o.job.name (λ p. desk' ≡ with_entry desk (entry.Published p o.job.worker o.job.moment))
-    → runs' ≡ slice_set runs w None → core_seen desk' runs' ≡ after (core_seen desk runs) (event.Publish w)
+    → runs' ≡ slice_set runs w None → core_seen desk' runs' ≡ core_after (core_seen desk runs) (event.Publish w)
 published_seen desk desk' runs runs' w o k is entered all =
     let mine = k.are_open.open_runs w o is in
     let here : run_of (core_seen desk runs) w ≡ Some (run_seen o) = run_of_seen desk runs w ∙ ap (option_map run_seen) is in
     for_each_pipe o.job.name _ _ _ entered entered
     (λ p pipe one again.
-    core_same (core_seen desk' runs') (after (core_seen desk runs) (event.Publish w))
+    core_same (core_seen desk' runs') (core_after (core_seen desk runs) (event.Publish w))
     (ap (λ (d : DeskSeen). d.subject) one)
     (ap (λ (d : DeskSeen). d.journal) one ∙ ap (λ n. desk.journal ++ entry.Published p n o.job.moment ∷ []) mine.worker
     ∙ ap (λ es. desk.journal ++ es) (sym (ap (published w) here ∙ ap (λ n. for_pipe n (λ q. entry.Published q w o.job.moment)) pipe)))
     (ap (map (option_map run_seen)) all ∙ map-set (option_map run_seen) runs w None))
 
-pub restarted_seen : (desk desk' : DeskSeen) (runs runs1 runs2 : List (Option OpenRun)) (w : ℕ) (o : OpenRun) (j : JobSeen) → Keeps desk runs → run_at runs w ≡ Some o
+pub restarted_seen : (desk desk' : DeskSeen) (runs runs1 runs2 : List (Option OpenRun)) (w : ℕ) (o : OpenRun) (j : JobSeen) → AreSeated desk runs → run_at runs w ≡ Some o
     → OfPipe o.job.name (λ p. desk' ≡ with_entry desk (entry.Restarted p o.job.worker (now desk).moment))
     → j ≡ record o.job { moment = (now desk).moment }
     → runs1 ≡ slice_set runs w None → runs2 ≡ slice_set runs1 w (Some (record { job = j; stage = None; frame = None }))
-    → core_seen desk' runs2 ≡ after (core_seen desk runs) (event.Restart w)
+    → core_seen desk' runs2 ≡ core_after (core_seen desk runs) (event.Restart w)
 restarted_seen desk desk' runs runs1 runs2 w o j k is entered anew out back =
     let mine = k.are_open.open_runs w o is in
     let here : run_of (core_seen desk runs) w ≡ Some (run_seen o) = run_of_seen desk runs w ∙ ap (option_map run_seen) is in
     let m = (now desk).moment in
     for_each_pipe o.job.name _ _ _ entered entered
     (λ p pipe one again.
-    core_same (core_seen desk' runs2) (after (core_seen desk runs) (event.Restart w))
+    core_same (core_seen desk' runs2) (core_after (core_seen desk runs) (event.Restart w))
     (ap (λ (d : DeskSeen). d.subject) one)
     (ap (λ (d : DeskSeen). d.journal) one ∙ ap (λ n. desk.journal ++ entry.Restarted p n m ∷ []) mine.worker
     ∙ ap (λ es. desk.journal ++ es) (sym (ap (restarted w m) here ∙ ap (λ n. for_pipe n (λ q. entry.Restarted q w m)) pipe)))
@@ -336,16 +336,16 @@ pub took_seen : (desk desk' : DeskSeen) (runs runs' : List (Option OpenRun)) (w 
     → desk' ≡ with_entry desk (entry.Took p w (now desk).moment)
     → j ≡ record { subject = desk.subject; name = job.Pipe p; worker = w; moment = (now desk).moment }
     → runs' ≡ slice_set runs w (Some (record { job = j; stage = None; frame = None }))
-    → core_seen desk' runs' ≡ after (core_seen desk runs) (event.Take w p)
+    → core_seen desk' runs' ≡ core_after (core_seen desk runs) (event.Take w p)
 took_seen desk desk' runs runs' w p j entered is all =
-    core_same (core_seen desk' runs') (after (core_seen desk runs) (event.Take w p))
+    core_same (core_seen desk' runs') (core_after (core_seen desk runs) (event.Take w p))
     (ap (λ (d : DeskSeen). d.subject) entered)
     (ap (λ (d : DeskSeen). d.journal) entered)
     (ap (map (option_map run_seen)) all ∙ map-set (option_map run_seen) runs w (Some (record { job = j; stage = None; frame = None }))
     ∙ ap (λ (i : JobSeen). slice_set (map (option_map run_seen) runs) w (Some (record { job = i.name; moment = i.moment; stage = None; framed = false }))) is)
 
 -- what is allowed where the worker has a run
-pub allowed_run : (desk : DeskSeen) (runs : List (Option OpenRun)) (w : ℕ) (o : OpenRun) (P : Run → Type 0) (r : Bool) → Keeps desk runs → Some o ≡ run_at runs w
+pub allowed_run : (desk : DeskSeen) (runs : List (Option OpenRun)) (w : ℕ) (o : OpenRun) (P : Run → Type 0) (r : Bool) → AreSeated desk runs → Some o ≡ run_at runs w
     → (IsTrue r ↔ P (run_seen o)) → IsTrue r ↔ (IsWorker (core_seen desk runs) w × HasRun (run_of (core_seen desk runs) w) P)
 allowed_run desk runs w o P r k is both = (
   (λ yes. (omega (arith, run_within runs w o (sym is), k.seats), to_run desk runs w o P (sym is) (both.0 yes))),
@@ -353,7 +353,7 @@ allowed_run desk runs w o P r k is both = (
 )
 
 -- where the run is of a pipe, as each is
-pub allowed_publish : (desk : DeskSeen) (runs : List (Option OpenRun)) (w : ℕ) (o : OpenRun) (r : Bool) → Keeps desk runs → Some o ≡ run_at runs w
+pub allowed_publish : (desk : DeskSeen) (runs : List (Option OpenRun)) (w : ℕ) (o : OpenRun) (r : Bool) → AreSeated desk runs → Some o ≡ run_at runs w
     → (IsTrue r ↔ (is_some o.frame ≡ true)) → IsTrue r ↔ IsAllowed (core_seen desk runs) (event.Publish w)
 allowed_publish desk runs w o r k is both =
     allowed_run desk runs w o (λ x. OfPipe x.job (λ p. x.framed ≡ true)) r k is (
@@ -367,9 +367,9 @@ frame_made f x j is h = subst (λ g. IsFrameOf g j) is h
 -- the editor's change, and what it answers
 pub changed_seen_by_edit : (desk desk' : DeskSeen) (runs : List (Option OpenRun)) (v : Core) (m : ℕ) → core_seen desk runs ≡ v
     → desk' ≡ with_entry desk (entry.Changed ((now desk).moment + 1)) → (now desk).steps < length desk.subject.script.steps → m ≡ (now desk').moment
-    → (core_seen desk' runs ≡ after v event.Editor) × (Moment m ≡ answer_to v event.Editor)
+    → (core_seen desk' runs ≡ core_after v event.Editor) × (Moment m ≡ answer_to v event.Editor)
 changed_seen_by_edit desk desk' runs v m is entered step told =
-    let F : Core → Type 0 = λ s. (core_seen desk' runs ≡ after s event.Editor) × (Moment m ≡ answer_to s event.Editor) in
+    let F : Core → Type 0 = λ s. (core_seen desk' runs ≡ core_after s event.Editor) × (Moment m ≡ answer_to s event.Editor) in
     let left : has_step (core_seen desk runs) ≡ true = lt-ltb (now desk).steps (length desk.subject.script.steps) step in
     let e = entry.Changed ((now desk).moment + 1) in
     let moment : m ≡ (now desk).moment + 1 = told ∙ ap (λ (d : DeskSeen). (now d).moment) entered ∙ ap (λ (d : Desk). d.moment) (desk_of-push start desk.journal e) in
@@ -411,9 +411,9 @@ open_none s n = record {
 }
 
 pub start_keeps : (s : SubjectSeen) (desk : DeskSeen) (runs : List (Option OpenRun)) (w : ℕ) → desk ≡ record { subject = s; journal = [] } → w ≡ last_worker s
-    → runs ≡ copies None (w + 1) → Keeps desk runs
+    → runs ≡ copies None (w + 1) → AreSeated desk runs
 start_keeps s desk runs w is workers none =
-    subst (λ d. Keeps d runs) (sym is) (subst (Keeps (record { subject = s; journal = [] })) (sym none) (record {
+    subst (λ d. AreSeated d runs) (sym is) (subst (AreSeated (record { subject = s; journal = [] })) (sym none) (record {
       seats = copies-length None (w + 1) ∙ ap (λ n. n + 1) workers;
       are_open = open_none s (w + 1);
     }))
@@ -480,7 +480,7 @@ may_give_back desk items rs seat o is some k =
     (mine.subject, held_job (now desk) (length rs) o.job.worker o.job.name o.job.moment mine.worker (holds_run desk items k (length rs) o at))
 
 -- whether a worker may take a pipe
-pub allowed_take : (desk : DeskSeen) (runs : List (Option OpenRun)) (w : ℕ) (p : Pipe) (r : Bool) → Keeps desk runs → w < length runs → None ≡ run_at runs w
+pub allowed_take : (desk : DeskSeen) (runs : List (Option OpenRun)) (w : ℕ) (p : Pipe) (r : Bool) → AreSeated desk runs → w < length runs → None ≡ run_at runs w
     → (IsTrue r ↔ IsDue desk.subject.script (now desk) p) → IsTrue r ↔ IsAllowed (core_seen desk runs) (event.Take w p)
 allowed_take desk runs w p r k worker free due = (
   (λ yes. (omega (arith, worker, k.seats), due.0 yes, idle_free desk runs k.are_open w worker (sym free))),
@@ -488,10 +488,10 @@ allowed_take desk runs w p r k worker free due = (
 )
 
 -- a worker past the last one may not take
-pub not_allowed_past : (desk : DeskSeen) (runs : List (Option OpenRun)) (w : ℕ) (p : Pipe) → Keeps desk runs → length runs ≤ w → IsTrue false ↔ IsAllowed (core_seen desk runs) (event.Take w p)
+pub not_allowed_past : (desk : DeskSeen) (runs : List (Option OpenRun)) (w : ℕ) (p : Pipe) → AreSeated desk runs → length runs ≤ w → IsTrue false ↔ IsAllowed (core_seen desk runs) (event.Take w p)
 not_allowed_past desk runs w p k past = ((λ no. absurd cc), (λ allowed. absurd (omega (arith, allowed.0, k.seats, past))))
 
-pub not_allowed_take : (desk : DeskSeen) (runs : List (Option OpenRun)) (w : ℕ) (p : Pipe) (o : OpenRun) → Keeps desk runs → Some o ≡ run_at runs w
+pub not_allowed_take : (desk : DeskSeen) (runs : List (Option OpenRun)) (w : ℕ) (p : Pipe) (o : OpenRun) → AreSeated desk runs → Some o ≡ run_at runs w
     → IsTrue false ↔ IsAllowed (core_seen desk runs) (event.Take w p)
 not_allowed_take desk runs w p o k is = (
   (λ no. absurd cc),

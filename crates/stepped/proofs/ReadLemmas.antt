@@ -4,7 +4,7 @@ use Rattle.std.specs.Prelude.{option_map}
 use Rattle.serde_json.specs.View.{view, items_view}
 use Rattle.serde_json.specs.declared.value.Value.{Value}
 use Rattle.stepped.specs.declared.event.Event.{Event}
-use Rattle.stepped.specs.Reads.{event_of_one, event_of_two, event_of_three, event_of_parts, count_of}
+use Rattle.stepped.specs.EventForms.{event_of_one, event_of_two, event_of_three, event_of_parts, count_of}
 
 abbrev pub with_front : List Event → Option (List Event) → Option (List Event)
 with_front front read = option_map (λ es. front ++ es) read

@@ -1,6 +1,6 @@
 pub mod Step
 pub mod Outcome
 pub mod Machine
-pub mod Reads
-pub mod Read
+pub mod EventForms
+pub mod EventsRead
 pub mod Texts

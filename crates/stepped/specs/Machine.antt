@@ -9,7 +9,7 @@ use Rattle.dev_core.specs.Own.{job_of}
 use Rattle.stepped.specs.declared.event.Answer.{Answer}
 use Rattle.stepped.specs.declared.event.Event.{Event}
 use Rattle.stepped.specs.declared.open_run.OpenRun.{OpenRun}
-use Rattle.stepped.specs.Step.{Run, Core, after, answer_to, last_worker}
+use Rattle.stepped.specs.Step.{Run, Core, core_after, answer_to, last_worker}
 
 -- an open run without its pictures
 abbrev pub run_seen : OpenRun → Run
@@ -42,11 +42,11 @@ pub record AreOpen (desk : DeskSeen) (runs : List (Option OpenRun)) : Type 0 whe
   pub holds : (n : ℕ) → n < length runs → job_at (run_at runs n) ≡ job_of n desk.journal
   pub open_runs : (n : ℕ) (o : OpenRun) → run_at runs n ≡ Some o → IsOpen desk n o
 
-pub record Keeps (desk : DeskSeen) (runs : List (Option OpenRun)) : Type 0 where
+pub record AreSeated (desk : DeskSeen) (runs : List (Option OpenRun)) : Type 0 where
   pub seats : length runs ≡ last_worker desk.subject + 1
   pub are_open : AreOpen desk runs
 
 -- an event that may happen has happened; want of memory left all as it was
 abbrev pub IsApplied : Core → Event → Core → Result Answer AllocError → Type 0
-IsApplied s e new (Ok a) = (new ≡ after s e) × (a ≡ answer_to s e)
+IsApplied s e new (Ok a) = (new ≡ core_after s e) × (a ≡ answer_to s e)
 IsApplied s e new (Err x) = new ≡ s

@@ -6,7 +6,7 @@ use Rattle.stepped.specs.declared.event.Event.TheVariants.{Node}
 use Rattle.stepped.specs.declared.event.Answer.{Answer}
 use Rattle.stepped.specs.declared.event.StepEnd.{StepEnd}
 use Rattle.stepped.specs.declared.event.StepEnd.TheVariants.{NotAllowed, Memory}
-use Rattle.stepped.specs.Step.{Core, core_of, IsAllowed, after, answer_to}
+use Rattle.stepped.specs.Step.{Core, core_of, IsAllowed, core_after, answer_to}
 
 -- the state, each event's answer, and the number of node events
 pub record OutcomeSeen : Type 0 where
@@ -23,7 +23,7 @@ nodes_in (Node w) = 1
 nodes_in _ = 0
 
 abbrev pub outcome_after : OutcomeSeen → Event → OutcomeSeen
-outcome_after o e = record { core = after o.core e; answers = o.answers ++ answer_to o.core e ∷ []; processed = o.processed + nodes_in e }
+outcome_after o e = record { core = core_after o.core e; answers = o.answers ++ answer_to o.core e ∷ []; processed = o.processed + nodes_in e }
 
 -- each event may happen after those before it
 abbrev pub AllAllowed : OutcomeSeen → List Event → Type 0

@@ -118,14 +118,14 @@ abbrev pub has_step : Core → Bool
 has_step s = nat_lt (desk_at s).steps (length s.subject.script.steps)
 
 -- the state after an event
-abbrev pub after : Core → Event → Core
-after s Editor = with_entries s ((if has_step s then entry.Changed ((desk_at s).moment + 1) else entry.Closed) ∷ [])
-after s (Take w p) = with_run (with_entries s (entry.Took p w (desk_at s).moment ∷ [])) w (Some (fresh (job.Pipe p) (desk_at s).moment))
-after s (Restart w) = with_run (with_entries s (restarted w (desk_at s).moment (run_of s w))) w (option_map (λ r. fresh r.job (desk_at s).moment) (run_of s w))
-after s (Load w) = with_run s w (option_map loaded (run_of s w))
-after s (Node w) = with_run s w (option_map processed (run_of s w))
-after s (Finish w) = with_run s w (option_map finished (run_of s w))
-after s (Publish w) = with_run (with_entries s (published w (run_of s w))) w None
+abbrev pub core_after : Core → Event → Core
+core_after s Editor = with_entries s ((if has_step s then entry.Changed ((desk_at s).moment + 1) else entry.Closed) ∷ [])
+core_after s (Take w p) = with_run (with_entries s (entry.Took p w (desk_at s).moment ∷ [])) w (Some (fresh (job.Pipe p) (desk_at s).moment))
+core_after s (Restart w) = with_run (with_entries s (restarted w (desk_at s).moment (run_of s w))) w (option_map (λ r. fresh r.job (desk_at s).moment) (run_of s w))
+core_after s (Load w) = with_run s w (option_map loaded (run_of s w))
+core_after s (Node w) = with_run s w (option_map processed (run_of s w))
+core_after s (Finish w) = with_run s w (option_map finished (run_of s w))
+core_after s (Publish w) = with_run (with_entries s (published w (run_of s w))) w None
 
 -- what an event answers
 abbrev pub answer_to : Core → Event → Answer

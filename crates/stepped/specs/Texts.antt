@@ -3,6 +3,6 @@ use Rattle.std.specs.Prelude.{ℕ, List, codes}
 use Rattle.stepped.specs.declared.fault.EventReason.{EventReason}
 use Rattle.stepped.specs.declared.fault.EventReason.TheVariants.{Form, NotAllowed}
 
-abbrev pub reason_text : EventReason → List ℕ
-reason_text Form = codes "form"
-reason_text NotAllowed = codes "not allowed"
+abbrev pub event_reason_text : EventReason → List ℕ
+event_reason_text Form = codes "form"
+event_reason_text NotAllowed = codes "not allowed"

@@ -13,9 +13,9 @@ pub enum EventReason {
 
 impl fmt::Display for EventReason {
     ghost use Rattle.std.specs.Prelude.{Some};
-    ghost use Rattle.stepped.specs.Texts.{reason_text};
+    ghost use Rattle.stepped.specs.Texts.{event_reason_text};
 
-    ghost output = { λ r. Some (reason_text r) };
+    ghost output = { λ r. Some (event_reason_text r) };
 
     fn fmt<W: fmt::Write>(&self, f: &mut fmt::Formatter<W>) -> fmt::Result {
         match self {

@@ -22,14 +22,14 @@ pub(crate) struct Machine {
 }
 
 impl Model for Machine {
-    ghost use Rattle.stepped.specs.Machine.{core_seen, Keeps};
+    ghost use Rattle.stepped.specs.Machine.{core_seen, AreSeated};
     ghost use Rattle.stepped.specs.Step.{Core};
 
     ghost Value = { Core };
 
     ghost view = { λ m. core_seen m.desk m.runs.items };
 
-    ghost invariant = { λ m. Keeps m.desk m.runs.items };
+    ghost invariant = { λ m. AreSeated m.desk m.runs.items };
 }
 
 impl Machine {

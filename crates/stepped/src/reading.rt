@@ -2,8 +2,8 @@
 ghost use Rattle.std.specs.Prelude.{◌≡◌, ℕ, ◌≤◌, List, length, take, IfOk, Err, None};
 ghost use Rattle.serde_json.specs.View.{view, items_view};
 ghost use Rattle.stepped.specs.declared.event.Event.{Event as EventSeen};
-ghost use Rattle.stepped.specs.Reads.{alone, of_worker, of_pipe, worker_in, event_of_one, event_of_two, event_of_three, event_of_parts, event_of, events_in, few_events_in, list_of, events_of};
-ghost use Rattle.stepped.specs.Read.{Reads};
+ghost use Rattle.stepped.specs.EventForms.{alone, of_worker, of_pipe, worker_in, event_of_one, event_of_two, event_of_three, event_of_parts, event_of, events_in, few_events_in, list_of, events_of};
+ghost use Rattle.stepped.specs.EventsRead.{AreEventsRead};
 
 use crate::event::Event;
 use crate::fault::{EventReason, EventsEnd, EventsFault};
@@ -18,7 +18,7 @@ const MOST_EVENTS: usize = 65_536;
 
 // A text or a value that hasn't the form.
 fn refused() -> EventsEnd
-    ensures { Reads {X = List EventSeen} (λ s. s) (Err result) None }
+    ensures { AreEventsRead {X = List EventSeen} (λ s. s) (Err result) None }
 {
     EventsEnd::Fault(EventsFault {
         place: 0,
@@ -104,7 +104,7 @@ fn event_of_parts(parts: &[Value]) -> Option<Event>
     }
 }
 
-#[tactic(auto, unfolding(crate::specs::Reads::event_of))]
+#[tactic(auto, unfolding(crate::specs::EventForms::event_of))]
 fn event_of(value: &Value) -> Option<Event>
     ensures { result ≡ event_of (view value.now) }
 {
@@ -112,7 +112,7 @@ fn event_of(value: &Value) -> Option<Event>
 }
 
 fn events_in(alloc: Global, values: &[Value]) -> Result<Vec<Event>, EventsEnd>
-    ensures read { Reads (λ v. v.items) result (events_in (items_view values.now)) }
+    ensures read { AreEventsRead (λ v. v.items) result (events_in (items_view values.now)) }
     ensures len { IfOk result (λ v. length v.items ≡ length values.now) }
 {
     let mut events = Vec::with_capacity(alloc, values.len())?;
@@ -127,7 +127,7 @@ fn events_in(alloc: Global, values: &[Value]) -> Result<Vec<Event>, EventsEnd>
 
 #[tactic(auto, using(crate::proofs::ReadLemmas::count_of_items))]
 fn few_events_in(alloc: Global, values: &[Value]) -> Result<Vec<Event>, EventsEnd>
-    ensures read { Reads (λ v. v.items) result (few_events_in (items_view values.now)) }
+    ensures read { AreEventsRead (λ v. v.items) result (few_events_in (items_view values.now)) }
     ensures few { IfOk result (λ v. length v.items ≤ 65536) }
 {
     if values.len() > MOST_EVENTS {
@@ -137,7 +137,7 @@ fn few_events_in(alloc: Global, values: &[Value]) -> Result<Vec<Event>, EventsEn
 }
 
 fn list_of(alloc: Global, value: &Value) -> Result<Vec<Event>, EventsEnd>
-    ensures read { Reads (λ v. v.items) result (list_of (view value.now)) }
+    ensures read { AreEventsRead (λ v. v.items) result (list_of (view value.now)) }
     ensures few { IfOk result (λ v. length v.items ≤ 65536) }
 {
     match value.as_array() {
@@ -153,9 +153,9 @@ fn list_of(alloc: Global, value: &Value) -> Result<Vec<Event>, EventsEnd>
 /// Anything else is refused as a fault of form at place 0. The front of a longer text, with one byte
 /// above the limit, is refused as the whole text is.
 pub fn read_events(alloc: Global, bytes: &[u8]) -> Result<Vec<Event>, EventsEnd>
-    ensures read { Reads (λ v. v.items) result (events_of bytes.now) }
+    ensures read { AreEventsRead (λ v. v.items) result (events_of bytes.now) }
     ensures few { IfOk result (λ v. length v.items ≤ 65536) }
-    ensures front { (text : List ℕ) → take 4194305 text ≡ bytes.now → Reads (λ v. v.items) result (events_of text) }
+    ensures front { (text : List ℕ) → take 4194305 text ≡ bytes.now → AreEventsRead (λ v. v.items) result (events_of text) }
 {
     match value_of(alloc, bytes) {
         Ok(value) => list_of(alloc, &value),

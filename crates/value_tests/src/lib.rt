@@ -17,6 +17,8 @@ mod module_order_tests;
 #[cfg(test)]
 mod modules_colour_tests;
 #[cfg(test)]
+mod modules_geometry_tests;
+#[cfg(test)]
 mod modules_raw_tests;
 #[cfg(test)]
 mod outside_tests;

@@ -6,7 +6,6 @@ use Rattle.params.specs.Read.{form_read}
 use Rattle.params.specs.Rules.{first_fault}
 use Rattle.params.specs.Seen.{all_seen, all_stated}
 use Rattle.params.specs.Stated.{row_form, row_entries}
-use Rattle.params.specs.Table.{row_of}
 use Rattle.params.proofs.WithinLemmas.{row_kept, row_faulty}
 use Rattle.params.proofs.reading.newest_read.Goals as goal
 

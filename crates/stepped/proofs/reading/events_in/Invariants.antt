@@ -1,6 +1,6 @@
 use Rattle.std.proofs.Common.{◌≡◌, length, drop}
 use Rattle.serde_json.specs.View.{items_view}
-use Rattle.stepped.specs.Reads.{events_in}
+use Rattle.stepped.specs.EventForms.{events_in}
 use Rattle.stepped.proofs.ReadLemmas.{with_front}
 use Rattle.stepped.proofs.reading.events_in.Given as goal
 

@@ -1,4 +1,4 @@
-use Rattle.std.proofs.Common.{◌≡◌, ◌<◌, length, take, sym, ap, arith}
+use Rattle.std.proofs.Common.{◌<◌, length, take}
 use Rattle.params.proofs.NodesLemmas.{pushed}
 use Rattle.params.proofs.nodes.Nodes20.push.Goals as goal
 

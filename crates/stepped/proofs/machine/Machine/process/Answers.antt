@@ -1,11 +1,11 @@
 use Rattle.std.proofs.Common.{◌∙◌, refl, ap, sym, subst}
 use Rattle.std.specs.Prelude.{◌≡◌, false}
 use Rattle.dev_core.specs.Subject.{SubjectSeen}
-use Rattle.stepped.proofs.MachineLemmas.{keeps_changed, changed_seen, of_run}
+use Rattle.stepped.proofs.MachineLemmas.{seated_changed, changed_seen, of_run}
 use Rattle.stepped.specs.declared.event.Event.TheVariants as event
 use Rattle.stepped.specs.declared.open_run.OpenRun.{OpenRun}
 use Rattle.stepped.specs.Machine.{IsFrameOf, run_seen}
-use Rattle.stepped.specs.Step.{Core, IsAllowed, IsBefore, actives_at, after, processed}
+use Rattle.stepped.specs.Step.{Core, IsAllowed, IsBefore, actives_at, core_after, processed}
 use Rattle.stepped.proofs.machine.Machine.process.Goals as goal
 
 pub process-requires : goal.process-requires
@@ -20,7 +20,7 @@ pub invariant_of-self : goal.invariant_of-self
 invariant_of-self c =
     let s = c.self.inside in
     let o = c.take_run-run.result in
-    keeps_changed s.desk s.runs.items _ _ c.args.worker o c.process.new.self c.self.invariant c.take_run-run.ensures.run c.take_run-run.ensures.items c.put_run.ensures
+    seated_changed s.desk s.runs.items _ _ c.args.worker o c.process.new.self c.self.invariant c.take_run-run.ensures.run c.take_run-run.ensures.items c.put_run.ensures
     (ap (λ (x : OpenRun). x.job) c.process.ensures) (subst (λ (x : OpenRun). IsFrameOf x.frame o.job) (sym c.process.ensures) (c.self.invariant.are_open.open_runs c.args.worker o c.take_run-run.ensures.run).frame)
 
 pub returns : goal.returns
@@ -28,6 +28,6 @@ returns c =
     let s = c.self.inside in
     let o = c.take_run-run.result in (
       changed_seen s.desk s.runs.items _ _ c.args.worker o c.process.new.self processed c.take_run-run.ensures.run c.take_run-run.ensures.items c.put_run.ensures (ap run_seen c.process.ensures)
-          ∙ ap (λ (v : Core). after v (event.Node c.args.worker)) c.self.view_is,
+          ∙ ap (λ (v : Core). core_after v (event.Node c.args.worker)) c.self.view_is,
       refl,
     )

@@ -1,8 +1,8 @@
 use Rattle.std.proofs.Common.{◌∙◌, refl, ap}
 use Rattle.dev_core.specs.DeskState.{now}
-use Rattle.stepped.proofs.MachineLemmas.{held_job, holds_run, frame_made, keeps_published, published_seen}
+use Rattle.stepped.proofs.MachineLemmas.{held_job, holds_run, frame_made, seated_published, published_seen}
 use Rattle.stepped.specs.declared.event.Event.TheVariants as event
-use Rattle.stepped.specs.Step.{Core, after}
+use Rattle.stepped.specs.Step.{Core, core_after}
 use Rattle.stepped.proofs.machine.Machine.publish.Goals as goal
 
 pub publish-requires-clause-subject : goal.publish-requires-clause-subject
@@ -23,12 +23,12 @@ publish-requires-clause-frame c =
 pub invariant_of-self : goal.invariant_of-self
 invariant_of-self c =
     let s = c.self.inside in
-    keeps_published s.desk _ s.runs.items _ c.args.worker c.take_run-job.result c.self.invariant c.take_run-job.ensures.run c.publish.ensures c.take_run-job.ensures.items
+    seated_published s.desk _ s.runs.items _ c.args.worker c.take_run-job.result c.self.invariant c.take_run-job.ensures.run c.publish.ensures c.take_run-job.ensures.items
 
 pub returns : goal.returns
 returns c =
     let s = c.self.inside in (
       published_seen s.desk _ s.runs.items _ c.args.worker c.take_run-job.result c.self.invariant c.take_run-job.ensures.run c.publish.ensures c.take_run-job.ensures.items
-          ∙ ap (λ (v : Core). after v (event.Publish c.args.worker)) c.self.view_is,
+          ∙ ap (λ (v : Core). core_after v (event.Publish c.args.worker)) c.self.view_is,
       refl,
     )

@@ -1,7 +1,7 @@
 use Rattle.std.proofs.Common.{◌∙◌, refl, sym, ap, subst, arith}
-use Rattle.stepped.proofs.MachineLemmas.{free_idle, keeps_took, took_seen}
+use Rattle.stepped.proofs.MachineLemmas.{free_idle, seated_took, took_seen}
 use Rattle.stepped.specs.declared.event.Event.TheVariants as event
-use Rattle.stepped.specs.Step.{Core, IsAllowed, after}
+use Rattle.stepped.specs.Step.{Core, IsAllowed, core_after}
 use Rattle.stepped.proofs.machine.Machine.take.Goals as goal
 
 pub put_run-requires-clause-free : goal.put_run-requires-clause-free
@@ -14,12 +14,12 @@ pub invariant_of-self-2 : goal.invariant_of-self-2
 invariant_of-self-2 c =
     let s = c.self.inside in
     let allowed = subst (λ (v : Core). IsAllowed v (event.Take c.args.worker c.args.pipe)) (sym c.self.view_is) c.requires in
-    keeps_took s.desk _ s.runs.items _ c.args.worker c.args.pipe _ c.self.invariant allowed c.in_ok-job.ensures.ok c.in_ok-job.ensures.job c.put_run.ensures
+    seated_took s.desk _ s.runs.items _ c.args.worker c.args.pipe _ c.self.invariant allowed c.in_ok-job.ensures.ok c.in_ok-job.ensures.job c.put_run.ensures
 
 pub returns : goal.returns
 returns c =
     let s = c.self.inside in (
       took_seen s.desk _ s.runs.items _ c.args.worker c.args.pipe _ c.in_ok-job.ensures.ok c.in_ok-job.ensures.job c.put_run.ensures
-          ∙ ap (λ (v : Core). after v (event.Take c.args.worker c.args.pipe)) c.self.view_is,
+          ∙ ap (λ (v : Core). core_after v (event.Take c.args.worker c.args.pipe)) c.self.view_is,
       refl,
     )

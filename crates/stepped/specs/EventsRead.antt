@@ -6,7 +6,7 @@ use Rattle.stepped.specs.declared.fault.EventReason.TheVariants.{Form}
 
 -- The answer, seen by `view`, is what the form gives, and a fault of form exactly where it gives nothing. Want of memory
 -- says nothing.
-abbrev pub Reads : {X Y : Type 0} → (X → Y) → Result X EventsEnd → Option Y → Type 0
-Reads view (Ok x) read = read ≡ Some (view x)
-Reads view (Err (Fault f)) read = (f ≡ record { place = 0; reason = Form }) × (read ≡ None)
-Reads view (Err Memory) read = Unit {0}
+abbrev pub AreEventsRead : {X Y : Type 0} → (X → Y) → Result X EventsEnd → Option Y → Type 0
+AreEventsRead view (Ok x) read = read ≡ Some (view x)
+AreEventsRead view (Err (Fault f)) read = (f ≡ record { place = 0; reason = Form }) × (read ≡ None)
+AreEventsRead view (Err Memory) read = Unit {0}

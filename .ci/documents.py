@@ -1,0 +1,216 @@
+#!/usr/bin/env python3
+"""Checks that the documents agree with the sources.
+
+- The fields of each module's settings, of a blend and of each mask: the same keys, in the same order, with the same
+  ranges and ties, in the definitions (crates/params/specs), in docs/FORMATS.md and in the JSON Schema.
+- Every file of the repository that a document names exists.
+
+Prints what disagrees, and ends with 1 where anything does.
+"""
+import json
+import re
+import sys
+from pathlib import Path
+
+TOP = Path(__file__).resolve().parent.parent
+SCHEMA = TOP / "docs/schema/script.schema.json"
+FORMATS = TOP / "docs/FORMATS.md"
+TABLE = TOP / "crates/params/specs/Table.antt"
+NAMES = TOP / "crates/params/specs/Names.antt"
+
+wrong = []
+
+
+def say(text):
+    wrong.append(text)
+
+
+# ---- the rows of the definitions
+
+
+def field_keys():
+    """The key of each field, by the field's name."""
+    pairs = re.findall(r'name_of_field fields\.(\w+) = codes "(\w+)"', NAMES.read_text())
+    return dict(pairs)
+
+
+def whole(text):
+    """A whole number as the definitions write it: `pos n`, or `negsuc n` for -(n + 1)."""
+    kind, digits = text.split()
+    return int(digits) if kind == "pos" else -int(digits) - 1
+
+
+def body_of(name, text):
+    """The right side of a definition, by its left side."""
+    found = re.search(r"(?m)^" + re.escape(name) + r" =((?:.*\n)(?:[ \t]+.*\n)*)", text)
+    return found.group(1) if found else ""
+
+
+CELL = re.compile(
+    r"nodes fields\.(?P<nodes>\w+)"
+    r"|flag_cell fields\.(?P<flag>\w+)"
+    r"|(?:cell|tied) fields\.(?P<field>\w+) (?P<layout>\w+) \((?P<low>\w+ \d+)\) \((?P<high>\w+ \d+)\)(?: \((?P<tie>\w+) (?P<at>\d+)\))?"
+)
+
+
+def cells_of(body, keys):
+    """The fields of a row: key, value, range and tie to an earlier key."""
+    cells = []
+    for m in CELL.finditer(body):
+        if m["nodes"]:
+            cells.append((keys[m["nodes"]], "nodes", 0, 1048575, None))
+        elif m["flag"]:
+            cells.append((keys[m["flag"]], "flag", None, None, None))
+        else:
+            tie = (m["tie"], int(m["at"])) if m["tie"] else None
+            cells.append((keys[m["field"]], m["layout"].lower(), whole(m["low"]), whole(m["high"]), tie))
+    return [
+        (key, value, low, high, tie and (tie[0], cells[tie[1]][0])) for key, value, low, high, tie in cells
+    ]
+
+
+def defined_rows():
+    """Each row of the definitions, by its name: a module with its version, a mask, or the blend."""
+    text = TABLE.read_text()
+    keys = field_keys()
+    rows = {}
+    blending = set()
+    for found in re.finditer(r'(?m)^module_row modules\.(\w+) = (module_seen|record)', text):
+        body = body_of(f"module_row modules.{found[1]}", text)
+        name = re.search(r'codes "(\w+)"', body)[1]
+        if found[2] == "record":
+            newest, blends = int(re.search(r"newest = (\d+)", body)[1]), "blends = true" in body
+        else:
+            newest, blends = re.search(r'codes "\w+"\) (\d+) (true|false)', body).groups()
+            newest, blends = int(newest), blends == "true"
+        rows[(name, newest)] = cells_of(body, keys)
+        if blends:
+            blending.add(name)
+    for found in re.finditer(r"(?m)^old_row_of olds\.(\w+?)(\d) =", text):
+        rows[(found[1].lower(), int(found[2]))] = cells_of(body_of(f"old_row_of olds.{found[1]}{found[2]}", text), keys)
+    for found in re.finditer(r"(?m)^mask_row_of masks\.(\w+) =", text):
+        rows[(found[1].lower(), 0)] = cells_of(body_of(f"mask_row_of masks.{found[1]}", text), keys)
+    rows[("blend", 0)] = cells_of(body_of("blend_row", text), keys)
+    return rows, blending
+
+
+# ---- the tables of docs/FORMATS.md
+
+
+def number_in(text):
+    return int(text.replace(",", "")) if text else None
+
+
+def tie_in(text):
+    above = re.fullmatch(r"above (?:each of )?`(\w+)`", text)
+    if above:
+        return ("Above", above[1])
+    both = re.fullmatch(r"not 0 where `(\w+)` is 0", text)
+    return ("NotBothZero", both[1]) if both else None
+
+
+def written_rows():
+    """Each row of the document's two tables of fields."""
+    rows = {}
+    row = None
+    versions = False
+    for line in FORMATS.read_text().splitlines():
+        columns = [c.strip() for c in line.strip("|").split("|")] if line.startswith("|") else []
+        if columns[:2] == ["Module", "Version"]:
+            versions, row = True, None
+        elif columns[:2] == ["Of", "Key"]:
+            versions, row = False, None
+        elif len(columns) == (7 if versions else 6) and not columns[0].startswith("-"):
+            if columns[0]:
+                row = (columns[0].strip("`"), int(columns[1]) if versions else 0)
+                rows[row] = []
+            key, value, low, high, tie = columns[2:] if versions else columns[1:]
+            if row and key.startswith("`"):
+                rows[row].append((key.strip("`"), value, number_in(low), number_in(high), tie_in(tie)))
+    return rows
+
+
+# ---- the JSON Schema
+
+
+def resolved(part, schema):
+    while "$ref" in part:
+        part = schema["$defs"][part["$ref"].split("/")[-1]]
+    return part
+
+
+def form_in(part, schema):
+    """The value and the range that a part of the schema allows."""
+    part = resolved(part, schema)
+    if part.get("type") == "boolean":
+        return "flag", None, None
+    if part.get("type") == "integer":
+        return "one", part["minimum"], part["maximum"]
+    inner = resolved(part["items"], schema)
+    if inner.get("type") == "integer":
+        return "three", inner["minimum"], inner["maximum"]
+    deep = resolved(inner["items"], schema)
+    kind = "nine" if part["maxItems"] == 3 else "nodes"
+    return kind, deep["minimum"], deep["maximum"]
+
+
+def check_schema(name, version, cells, schema):
+    defs = schema["$defs"]
+    part = defs.get(f"{name}-{version}") or defs.get(name)
+    if part is None:
+        say(f"{SCHEMA.name}: no definition of {name} {version}")
+        return
+    keys = [k for k in part["properties"] if k not in ("shape", "mode", "mask")]
+    if keys != [c[0] for c in cells]:
+        say(f"{SCHEMA.name}: {name} {version} has the keys {keys}")
+        return
+    for key, value, low, high, _tie in cells:
+        if form_in(part["properties"][key], schema) != (value, low, high):
+            say(f"{SCHEMA.name}: {name} {version}, {key}: {form_in(part['properties'][key], schema)} for {(value, low, high)}")
+
+
+def blending_in(schema):
+    for rule in schema["$defs"]["item"]["allOf"]:
+        if "blend" in rule.get("then", {}).get("properties", {}):
+            return set(rule["if"]["properties"]["module"]["enum"])
+    return set()
+
+
+# ---- files that documents name
+
+
+def check_files():
+    roots = [p for p in TOP.glob("*.md")] + [p for p in (TOP / "docs").glob("*.md")]
+    for page in roots:
+        for name in re.findall(r"`([\w./-]+\.(?:md|py|sh|json|rt|antt|ppm|pgm|png|edit|txt))`", page.read_text()):
+            if "/" not in name:
+                continue
+            places = [TOP / name, TOP / "crates" / name, TOP / "docs" / name]
+            crate_first = re.match(r"(\w+)/(specs|src|proofs)/", name)
+            if not any(p.exists() for p in places):
+                say(f"{page.name}: no file {name}" + (" under crates/" if crate_first else ""))
+
+
+def main():
+    defined, blending = defined_rows()
+    written = written_rows()
+    schema = json.loads(SCHEMA.read_text())
+    for row, cells in defined.items():
+        if written.get(row) != cells:
+            say(f"{FORMATS.name}: {row[0]} {row[1]}: {written.get(row)} for {cells}")
+        if row[0] != "demosaic":
+            check_schema(row[0], row[1], cells, schema)
+    for row in written:
+        if row not in defined:
+            say(f"{FORMATS.name}: {row[0]} {row[1]} is no row")
+    if blending_in(schema) != blending:
+        say(f"{SCHEMA.name}: {blending_in(schema)} blend for {blending}")
+    check_files()
+    for text in wrong:
+        print(text)
+    print(f"documents: {len(defined)} rows of fields, {len(wrong)} disagreements")
+    sys.exit(1 if wrong else 0)
+
+
+if __name__ == "__main__":
+    main()
