@@ -1,5 +1,5 @@
 -- boxes of a plane
-use Rattle.std.proofs.Common.{◌≡◌, ℕ, ◌+◌, ◌-◌, ◌*◌, ◌/◌, ◌<◌, ◌≤◌, min, List, [], ◌∷◌, slice_index, refl, sym, ap, ◌∙◌, subst, arith}
+use Rattle.std.proofs.Common.{◌≡◌, ℕ, ◌*◌, ◌/◌, ◌<◌, List, refl, sym, ap, ◌∙◌, arith}
 use Rattle.px.specs.declared.kind.PlaneKind.TheVariants.{Rgb}
 use Rattle.px.specs.Area.{Area, HasPixel, Covers, IsIn, grown}
 use Rattle.px.specs.Cut.{Cut, IsCutOf, value_at}
@@ -8,7 +8,6 @@ use Rattle.px.specs.Kind.{channels}
 use Rattle.px.specs.Painted.{IsPainted}
 use Rattle.px.specs.Bands.{IsShaped}
 use Rattle.px.specs.Picture.{Picture, rgb_of}
-use Rattle.px.specs.Sums.{area_total}
 use Rattle.local_modules.specs.Blurring.{window, mean_over, blurred, blurred_picture}
 use Rattle.local_modules.specs.Running.{IsBlurred}
 use Rattle.px.proofs.SumLemmas.{area_same}

@@ -1,8 +1,7 @@
 -- sums over windows that move
-use Rattle.std.proofs.Common.{◌≡◌, ℕ, zero, suc, ◌+◌, ◌-◌, ◌*◌, ◌/◌, ◌<◌, ◌≤◌, min, List, [], ◌∷◌, length, slice_index, refl, sym, ap, ◌∙◌, subst, arith}
+use Rattle.std.proofs.Common.{◌≡◌, ℕ, zero, suc, ◌+◌, ◌-◌, ◌*◌, ◌/◌, ◌<◌, ◌≤◌, min, List, [], ◌∷◌, length, slice_index, refl, sym, ap, ◌∙◌, arith}
 use Rattle.px.specs.Cut.{Cut, value_at}
 use Rattle.px.specs.declared.kind.PlaneKind.TheVariants.{Rgb}
-use Rattle.px.specs.Area.{Area, HasPixel}
 use Rattle.px.specs.Kind.{channels}
 use Rattle.px.specs.Sums.{total}
 use Rattle.px.proofs.SumLemmas.{total_same}

@@ -1,5 +1,5 @@
 -- sharpen
-use Rattle.std.specs.Prelude.{◌≡◌, ℕ, ℤ, pos, ◌+ℤ◌, ◌-ℤ◌, ◌*ℤ◌, List, [], ◌∷◌}
+use Rattle.std.specs.Prelude.{ℕ, pos, ◌+ℤ◌, ◌-ℤ◌, ◌*ℤ◌, List, [], ◌∷◌}
 use Rattle.px.specs.Number.{floor_div, clamp}
 use Rattle.px.specs.Picture.{Picture}
 use Rattle.local_modules.specs.Blurring.{blurred}

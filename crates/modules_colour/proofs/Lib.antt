@@ -4,3 +4,4 @@ pub mod MixLemmas
 pub mod NodeLemmas
 pub mod WithinLemmas
 pub mod OldLemmas
+pub mod ExposeLemmas

@@ -1,5 +1,5 @@
 -- products of pixels and rows of a matrix
-use Rattle.std.proofs.Common.{◌≡◌, ℕ, zero, suc, ◌+◌, ◌*◌, ◌/◌, ◌%◌, ◌<◌, ◌≤◌, List, [], ◌∷◌, slice_index, min, refl, sym, ap, ◌∙◌, subst, arith}
+use Rattle.std.proofs.Common.{◌≡◌, ℕ, zero, suc, ◌/◌, ◌%◌, ◌≤◌, [], ◌∷◌, slice_index, sym, subst, arith}
 use Rattle.std.specs.Prelude.{ℤ, pos, negsuc, ◌+ℤ◌, ◌*ℤ◌, ◌≤ℤ◌, neg_ℤ, unsigned_abs}
 use Rattle.std.proofs.lemmas.Int.{ints}
 use mir.Syntax.{w32}
@@ -7,7 +7,7 @@ use mir.Val.{of_z, to_z}
 use Rattle.std.proofs.lemmas.List.{get_or_past}
 use Rattle.params.specs.declared.settings.ChannelMixer.{ChannelMixer}
 use Rattle.params.specs.Each.{IsMixerWithin}
-use Rattle.px.specs.Number.{clamp, floor_div}
+use Rattle.px.specs.Number.{clamp}
 use Rattle.px.specs.Pixelwise.{made_of}
 use Rattle.px.proofs.NumberLemmas.{by_parts}
 use Rattle.modules_colour.specs.Mixing.{IsMatrix, factor, mixed}

@@ -5,7 +5,6 @@ use Rattle.params.specs.Ranges.{migrated}
 use Rattle.params.specs.declared.old.OldParams.{OldParams}
 use Rattle.params.specs.declared.old.OldParams.TheVariants as old
 use Rattle.px.specs.Number.{floor_div, clamp}
-use Rattle.px.specs.Picture.{Picture}
 use Rattle.modules_colour.specs.Curving.{curved, nodes_of}
 use Rattle.modules_colour.specs.Exposing.{changed, exposed}
 use Rattle.modules_colour.specs.Old.{exposed_1, MeansTheSame}

@@ -1,5 +1,5 @@
 -- exposure
-use Rattle.std.specs.Prelude.{◌≡◌, ℕ, ◌*◌, ◌^◌, ℤ, pos, ◌+ℤ◌, ◌-ℤ◌, ◌*ℤ◌}
+use Rattle.std.specs.Prelude.{ℕ, ◌*◌, ◌^◌, ℤ, pos, ◌+ℤ◌, ◌-ℤ◌, ◌*ℤ◌}
 use Rattle.params.specs.Form.{natural_of}
 use Rattle.params.specs.declared.settings.Exposure.{Exposure}
 use Rattle.px.specs.Number.{floor_div, clamp}

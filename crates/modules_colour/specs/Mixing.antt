@@ -1,5 +1,5 @@
 -- the channel mixer
-use Rattle.std.specs.Prelude.{◌≡◌, ℕ, ◌+◌, ◌*◌, ◌≤◌, ℤ, pos, ◌+ℤ◌, ◌*ℤ◌, List, length, slice_index_or, unsigned_abs}
+use Rattle.std.specs.Prelude.{◌≡◌, ℕ, ◌+◌, ◌*◌, ◌≤◌, ℤ, pos, ◌+ℤ◌, ◌*ℤ◌, length, slice_index_or, unsigned_abs}
 use Rattle.params.specs.declared.settings.ChannelMixer.{ChannelMixer}
 use Rattle.px.specs.Number.{floor_div, clamp}
 use Rattle.px.specs.Picture.{Picture}

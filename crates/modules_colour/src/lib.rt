@@ -14,6 +14,6 @@ mod steps;
 
 pub use curve_table::CurveTable;
 pub use curving::{curve, curve_in_turn};
-pub use exposing::exposure;
+pub use exposing::{exposure, exposure_in_turn};
 pub use migrating::migrate_same;
 pub use mixing::{mixer, mixer_in_turn};

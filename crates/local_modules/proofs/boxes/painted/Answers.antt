@@ -1,4 +1,4 @@
-use Rattle.std.proofs.Common.{refl, ap, sym, arith}
+use Rattle.std.proofs.Common.{refl, ap, arith}
 use Rattle.px.specs.Area.{Area}
 use Rattle.px.proofs.PaintedLemmas.{painted_of_rows}
 use Rattle.local_modules.proofs.boxes.painted.Goals as goal

@@ -1,5 +1,4 @@
-use Rattle.std.proofs.Common.{◌≡◌, ◌+◌, ◌-◌, ◌*◌, ◌≤◌, slice_index, arith}
-use Rattle.std.proofs.Math.Nat.{mul-le-mul_left}
+use Rattle.std.proofs.Common.{◌-◌, ◌*◌, ◌≤◌, arith}
 use Rattle.local_modules.proofs.RunningLemmas.{columns_less, columns_hold, columns_more, columns_small}
 use Rattle.local_modules.proofs.columns.move_rows.Goals as goal
 

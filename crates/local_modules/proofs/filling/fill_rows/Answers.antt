@@ -1,4 +1,4 @@
-use Rattle.std.proofs.Common.{◌≡◌, ◌+◌, ◌-◌, ◌*◌, refl, arith}
+use Rattle.std.proofs.Common.{◌≡◌, refl, arith}
 use Rattle.px.proofs.RowLemmas.{row_fits, rows_more}
 use Rattle.local_modules.proofs.filling.fill_rows.Goals as goal
 

@@ -1,4 +1,4 @@
-use Rattle.std.proofs.Common.{◌≡◌, ℕ, ◌+◌, ◌-◌, ◌*◌, ◌≤◌, min, List}
+use Rattle.std.proofs.Common.{ℕ, ◌+◌, ◌-◌, ◌*◌, ◌≤◌, min, List}
 use Rattle.px.specs.Cut.{Cut, value_at}
 use Rattle.px.specs.Painted.{AreRows}
 use Rattle.local_modules.specs.Running.{AreColumns, IsBlurred}

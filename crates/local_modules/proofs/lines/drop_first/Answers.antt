@@ -1,4 +1,4 @@
-use Rattle.std.proofs.Common.{◌≡◌, ◌+◌, sym, ap, ◌∙◌, arith}
+use Rattle.std.proofs.Common.{◌≡◌, ◌+◌, ap, arith}
 use Rattle.local_modules.specs.Running.{channel, between}
 use Rattle.local_modules.proofs.RunningLemmas.{between_less}
 use Rattle.local_modules.proofs.lines.drop_first.Goals as goal

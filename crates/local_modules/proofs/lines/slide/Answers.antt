@@ -1,6 +1,6 @@
-use Rattle.std.proofs.Common.{◌≡◌, ◌+◌, ◌-◌, ◌*◌, ◌≤◌, ◌<◌, slice_index, arith}
-use Rattle.local_modules.specs.Running.{channel, between}
-use Rattle.local_modules.proofs.RunningLemmas.{between_less, between_more, between_small}
+use Rattle.std.proofs.Common.{◌+◌, ◌-◌, ◌*◌, ◌≤◌, arith}
+use Rattle.local_modules.specs.Running.{channel}
+use Rattle.local_modules.proofs.RunningLemmas.{between_less, between_small}
 use Rattle.local_modules.proofs.lines.slide.Goals as goal
 
 pub overflow_sub-now : goal.overflow_sub-now

@@ -1,5 +1,4 @@
-use Rattle.std.proofs.Common.{◌≡◌, ◌+◌, ◌-◌, ◌*◌, ◌≤◌, arith}
-use Rattle.local_modules.specs.Running.{channel, between}
+use Rattle.std.proofs.Common.{◌+◌, ◌-◌, ◌*◌, ◌≤◌, arith}
 use Rattle.local_modules.proofs.RunningLemmas.{between_small}
 use Rattle.local_modules.proofs.lines.take_last.Goals as goal
 

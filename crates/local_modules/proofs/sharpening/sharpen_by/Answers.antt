@@ -1,6 +1,6 @@
-use Rattle.std.proofs.Common.{◌≡◌, sym, ap, ◌∙◌, subst, arith}
+use Rattle.std.proofs.Common.{sym, ap, subst, arith}
 use Rattle.std.proofs.lemmas.Result.{IfOk-weaker}
-use Rattle.px.specs.Area.{Area, HasPixel, Covers}
+use Rattle.px.specs.Area.{HasPixel}
 use Rattle.px.specs.Cut.{Cut, value_at}
 use Rattle.local_modules.proofs.SharpLemmas.{grown_covers, sharpened_cut, sharpened_small}
 use Rattle.local_modules.proofs.sharpening.sharpen_by.Goals as goal

@@ -1,6 +1,5 @@
-use Rattle.std.proofs.Common.{◌≡◌, ℕ, ◌+◌, ◌-◌, ◌<◌, ◌≤◌, get_or, slice_index, refl, sym, ap, ◌∙◌, ⊎_elim, arith}
+use Rattle.std.proofs.Common.{◌≡◌, ℕ, ◌+◌, ◌-◌, ◌<◌, ◌≤◌, get_or, refl, sym, ap, ◌∙◌, ⊎_elim, arith}
 use Rattle.std.proofs.lemmas.Bool.{cases_lt}
-use Rattle.modules_colour.specs.Curving.{curved}
 use Rattle.modules_colour.proofs.NodeLemmas.{entries_small, node_value, node_above, before_first, from_first, up_to_next, past_next, past_last}
 use Rattle.modules_colour.proofs.channel_table.fill.Goals as goal
 

@@ -1,6 +1,6 @@
-use Rattle.std.proofs.Common.{◌≡◌, ℕ, ◌+◌, ◌-◌, ◌<◌, ◌≤◌, get_or, slice_index, refl, sym, ap, ◌∙◌, ⊎_elim, arith, get_or-set_other, get_or-set_same}
+use Rattle.std.proofs.Common.{◌≡◌, ◌-◌, ◌<◌, ◌≤◌, refl, ◌∙◌, ⊎_elim, arith, get_or-set_other, get_or-set_same}
 use Rattle.std.proofs.lemmas.Bool.{cases_lt}
-use Rattle.modules_colour.proofs.LineLemmas.{split_first, split_more, split_stays, split_low, between_is}
+use Rattle.modules_colour.proofs.LineLemmas.{split_more, between_is}
 use Rattle.modules_colour.proofs.channel_table.fill_between.Goals as goal
 
 pub loop-v-preserved : goal.loop-v-preserved

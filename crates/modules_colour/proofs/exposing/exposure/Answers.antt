@@ -1,9 +1,19 @@
 use Rattle.std.proofs.Common.{map, sym, ap, ◌∙◌, arith}
 use Rattle.std.proofs.lemmas.Result.{IfOk-weaker}
 use Rattle.px.specs.Area.{HasPixel}
+use Rattle.px.specs.Cut.{value_at}
 use Rattle.px.proofs.PaintedLemmas.{cut_of_rgb, pixel_of_part}
 use Rattle.modules_colour.specs.Exposing.{exposed, exposed_picture}
+use Rattle.modules_colour.proofs.ExposeLemmas.{exposed_tops}
 use Rattle.modules_colour.proofs.exposing.exposure.Goals as goal
+
+pub paint-requires-clause-asks : goal.paint-requires-clause-asks
+paint-requires-clause-asks g c κs within x y inside =
+    let here : HasPixel c.args.input.now.area x y = record { left = omega arith; right = omega arith; top = omega arith; bottom = omega arith } in
+    (here, c.requires.rgb, c.requires.within)
+
+pub paint-requires-clause-gives : goal.paint-requires-clause-gives
+paint-requires-clause-gives g c κs within x y r inside is i = rw is (exposed_tops c.args.params.now (value_at c.args.input.now x y 0) (value_at c.args.input.now x y 1) (value_at c.args.input.now x y 2) i)
 
 pub returns-clause-cut : goal.returns-clause-cut
 returns-clause-cut g c =

@@ -1,5 +1,5 @@
 use Rattle.std.proofs.Common.{◌≡◌, ℕ, ◌∷◌, [], ◌*◌, ◌+◌, slice_index, refl, ◌∙◌, arith}
-use Rattle.std.specs.Prelude.{ℤ, pos, ◌+ℤ◌, ◌*ℤ◌}
+use Rattle.std.specs.Prelude.{pos, ◌+ℤ◌, ◌*ℤ◌}
 use Rattle.px.specs.Number.{clamp, floor_div}
 use Rattle.px.proofs.RowLemmas.{adds_three, three}
 use Rattle.px.proofs.MadeLemmas.{made_more}

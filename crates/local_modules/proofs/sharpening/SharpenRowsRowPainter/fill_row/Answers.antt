@@ -1,4 +1,4 @@
-use Rattle.std.proofs.Common.{◌≡◌, ◌+◌, ◌*◌, ◌<◌, ap, sym, ◌∙◌, length, arith}
+use Rattle.std.proofs.Common.{◌≡◌, ◌*◌, ap, ◌∙◌, arith}
 use Rattle.px.specs.Kind.{channels}
 use Rattle.local_modules.proofs.SharpLemmas.{sharpened_row}
 use Rattle.local_modules.proofs.sharpening.SharpenRowsRowPainter.fill_row.Goals as goal
