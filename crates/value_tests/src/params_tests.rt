@@ -10,9 +10,8 @@ use std::test::Fail;
 
 /// What is read and its version, a field, its place in its list, its least and greatest number, and a
 /// text with `#` where the number stands. `blend` is a blend, and `mask` the mask of one.
-const RANGES: [&str; 43] = [
-    r#"rawprepare 1 black 0 0 65535 {"black":[#,0,0],"white":65535}"#,
-    r#"rawprepare 1 black 2 0 65535 {"black":[0,0,#],"white":65535}"#,
+const RANGES: [&str; 42] = [
+    r#"rawprepare 1 white 0 65535 65535 {"black":[0,65534,0],"white":#}"#,
     r#"rawprepare 1 white 0 1 65535 {"black":[0,0,0],"white":#}"#,
     r#"temperature 1 mul 0 0 32768 {"mul":[#,0,0]}"#,
     r#"temperature 1 mul 1 0 32768 {"mul":[0,#,0]}"#,
