@@ -6,13 +6,9 @@ mod develop;
 mod devices;
 mod inputs;
 mod replay;
-#[cfg(test)]
-mod replay_tests;
 mod served;
 mod status;
 mod tally;
-#[cfg(test)]
-mod tests;
 mod words;
 
 pub use develop::develop_once;
