@@ -23,7 +23,14 @@ fn slope(alloc: Global, part: u32) -> Result<Plane, AllocError>
         let v = (x + y) / part;
         [v, v, v]
     };
-    paint_in_turn(alloc, PlaneKind::Rgb, 4096, 4, Region::whole(4096, 4), &ByPixel { pixel })
+    paint_in_turn(
+        alloc,
+        PlaneKind::Rgb,
+        4096,
+        4,
+        Region::whole(4096, 4),
+        &ByPixel { pixel },
+    )
 }
 
 // A gain of 2048 / 4096 halves each value, rounded down.
