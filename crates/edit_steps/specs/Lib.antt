@@ -4,6 +4,7 @@ pub mod Changes
 pub mod Pipes
 pub mod Faults
 pub mod Script
+pub mod Sorts
 pub mod Kept
 pub mod Answer
 pub mod Texts

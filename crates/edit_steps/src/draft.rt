@@ -122,9 +122,17 @@ impl Draft {
         self.view = step.view_behind(self.view);
         self.second = step.second_behind(self.second);
         keep_of(&step, &mut self.changes, kind, self.view, self.second);
-        self.steps.push_reserved(step);
+        push_kept(&mut self.steps, step);
         Ok(())
     }
+}
+
+// Puts an item behind the others. There is room for it.
+fn push_kept<T>(items: &mut Vec<T>, item: T)
+    requires { vec_len items.old < vec_capacity items.old }
+    ensures { items.new.items ≡ items.old.items ++ item ∷ [] }
+{
+    items.push_reserved(item);
 }
 
 // Keeps what is kept of a step, where it is a change. There is room for it.

@@ -4,8 +4,9 @@ ghost use Rattle.edit_steps.specs.declared.step.Step.{Step};
 ghost use Rattle.history.specs.Faults.{edit_fault};
 ghost use Rattle.history.specs.After.{after, kind_of};
 ghost use Rattle.undo_stack.specs.Undoing.{changed};
-ghost use Rattle.edit_steps.specs.Changes.{is_change, histories_behind, change_kind};
-ghost use Rattle.edit_steps.specs.Faults.{is_export, is_thumbnail, is_settle, limit_fault, window_fault, history_fault};
+ghost use Rattle.edit_steps.specs.Changes.{histories_behind, change_kind};
+ghost use Rattle.edit_steps.specs.Faults.{limit_fault, window_fault, history_fault};
+ghost use Rattle.edit_steps.specs.Sorts.{is_sort};
 
 use crate::fault::Reason;
 use crate::settings::Settings;
@@ -26,55 +27,57 @@ pub const MAX_THUMBNAILS: usize = 16;
 /// How many settles a script has at most.
 pub const MAX_SETTLES: usize = 256;
 
+// The sorts of steps that have a limit.
+#[derive(Clone, Copy)]
+enum Sort {
+    Change,
+    Export,
+    Thumbnail,
+    Settle,
+}
+
 // The fault of a step more of its sort. Few steps come before it, so that counting them is short.
 pub(crate) fn limit_fault(before: &[Step], step: &Step) -> Option<Reason>
     ensures { result ≡ limit_fault before.now step.now }
 {
     match step {
         Step::Edit(_) | Step::Undo | Step::Redo | Step::View(_) | Step::Second(_) => {
-            (count_changes(before) >= MAX_CHANGES).then_some(Reason::TooManyChanges)
+            (count_sort(before, Sort::Change) >= MAX_CHANGES).then_some(Reason::TooManyChanges)
         }
         Step::Export { .. } => {
-            (count_exports(before) >= MAX_EXPORTS).then_some(Reason::TooManyExports)
+            (count_sort(before, Sort::Export) >= MAX_EXPORTS).then_some(Reason::TooManyExports)
         }
-        Step::Thumbnail { .. } => {
-            (count_thumbnails(before) >= MAX_THUMBNAILS).then_some(Reason::TooManyThumbnails)
+        Step::Thumbnail { .. } => (count_sort(before, Sort::Thumbnail) >= MAX_THUMBNAILS)
+            .then_some(Reason::TooManyThumbnails),
+        Step::Settle => {
+            (count_sort(before, Sort::Settle) >= MAX_SETTLES).then_some(Reason::TooManySettles)
         }
-        Step::Settle => (count_settles(before) >= MAX_SETTLES).then_some(Reason::TooManySettles),
     }
 }
 
-fn count_changes(steps: &[Step]) -> usize
-    ensures { result ≡ count_by is_change steps.now }
+// How many of the steps are of the sort.
+fn count_sort(steps: &[Step], sort: Sort) -> usize
+    ensures { result ≡ count_by (is_sort sort) steps.now }
 {
-    steps.iter().filter(|step| step.is_change()).count()
+    let mut count = 0;
+    for step in steps {
+        if is_sort(step, sort) {
+            count += 1;
+        }
+    }
+    count
 }
 
-fn count_exports(steps: &[Step]) -> usize
-    ensures { result ≡ count_by is_export steps.now }
+// Whether a step is of the sort.
+fn is_sort(step: &Step, sort: Sort) -> bool
+    ensures { result ≡ is_sort sort step.now }
 {
-    steps
-        .iter()
-        .filter(|step| matches!(step, Step::Export { .. }))
-        .count()
-}
-
-fn count_thumbnails(steps: &[Step]) -> usize
-    ensures { result ≡ count_by is_thumbnail steps.now }
-{
-    steps
-        .iter()
-        .filter(|step| matches!(step, Step::Thumbnail { .. }))
-        .count()
-}
-
-fn count_settles(steps: &[Step]) -> usize
-    ensures { result ≡ count_by is_settle steps.now }
-{
-    steps
-        .iter()
-        .filter(|step| matches!(step, Step::Settle))
-        .count()
+    match sort {
+        Sort::Change => step.is_change(),
+        Sort::Export => matches!(step, Step::Export { .. }),
+        Sort::Thumbnail => matches!(step, Step::Thumbnail { .. }),
+        Sort::Settle => matches!(step, Step::Settle),
+    }
 }
 
 // The fault of a step at the windows.

@@ -12,7 +12,7 @@ invariant_of-self-2 c =
     let d = c.self.inside in
     let r = recipe d.settings d.opening d.steps.items in
     let allowed : step_fault d.settings d.opening d.steps.items c.args.step ≡ None = subst (λ (q : Recipe). step_fault q.settings q.opening q.steps c.args.step ≡ None) (sym c.self.view_is) c.requires.allowed in
-    let pushed = c.push_reserved.ensures.items ∙ ap (λ xs. xs ++ c.args.step ∷ []) c.in_ok-reserve.ensures.items in
+    let pushed = c.push_kept.ensures ∙ ap (λ xs. xs ++ c.args.step ∷ []) c.in_ok-reserve.ensures.items in
     let kept = c.keep_of.ensures ∙ ap (λ ks. ks ++ kept_as c.in_ok-kind.kind c.view_behind-self-inside.result c.second_behind-self-inside.result (scope_of c.args.step)) c.in_ok-reserve-2.ensures.items in (
       IsKept-more r d.changes.items _ c.args.step d.histories d.view d.second c.in_ok-kind.kind c.view_behind-self-inside.result c.second_behind-self-inside.result _ c.self.invariant.0 c.self.invariant.1 c.requires.within allowed pushed
           c.in_ok-kind.ensures.kind c.view_behind-self-inside.ensures c.second_behind-self-inside.ensures kept,
