@@ -128,7 +128,7 @@ impl Draft {
 }
 
 // Puts an item behind the others. There is room for it.
-fn push_kept<T>(items: &mut Vec<T>, item: T)
+fn push_kept<T: Copy>(items: &mut Vec<T>, item: T)
     requires { vec_len items.old < vec_capacity items.old }
     ensures { items.new.items ≡ items.old.items ++ item ∷ [] }
 {

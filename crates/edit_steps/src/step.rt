@@ -7,7 +7,7 @@ use px::{BoxSize, Depth, View};
 
 /// One step of a script. Edits, undos, redos, views and second views are changes: each makes a new
 /// moment.
-#[derive(Debug, PartialEq, Eq, Drop)]
+#[derive(Clone, Copy, Debug, PartialEq, Eq)]
 pub enum Step {
     /// Changes the history.
     Edit(Edit),

@@ -2,7 +2,7 @@ use crate::items::Item;
 use params::Module;
 
 /// A change of a history.
-#[derive(Debug, PartialEq, Eq, Drop)]
+#[derive(Clone, Copy, Debug, PartialEq, Eq)]
 pub enum Edit {
     /// New settings of an instance. Items past the end go; the top item is overwritten where it is of
     /// the same instance.
