@@ -1,18 +1,16 @@
--- Writing the slots of an order one by one.
+-- Writing the elements of a list one by one.
 use Rattle.std.proofs.Common.{◌≡◌, ℕ, ◌+◌, ◌<◌, ◌≤◌, List, [], ◌∷◌, ◌++◌, map, take, get_or, Some, sym, ap, ◌∙◌, arith, subst, ⊎_elim}
 use Rattle.std.specs.Prelude.{slice_get, slice_index_or}
 use Rattle.std.specs.List.{AllWithin}
 use Rattle.std.proofs.lemmas.List.{take_more, map-append}
 use Rattle.std.proofs.lemmas.Option.{get_or_from_slice_get, slice_get_within}
 use Rattle.std.proofs.lemmas.Bool.{cases_lt}
-use Rattle.module_order.specs.declared.slots.Slot.{Slot}
-use Rattle.edit_script.specs.Written.{slot_data}
 
--- one more slot is written behind those before it
-pub order_more : (order : List Slot) (i : ℕ) (s : Slot) → slice_get order i ≡ Some s → map slot_data (take (i + 1) order) ≡ map slot_data (take i order) ++ slot_data s ∷ []
-order_more order i s e =
-    let at : get_or order i s ≡ s = get_or_from_slice_get order i s s e in
-    ap (map slot_data) (take_more order i s (slice_get_within order i s e) ∙ ap (λ x. take i order ++ x ∷ []) at) ∙ map-append slot_data (take i order) (s ∷ [])
+-- one more element is written behind those before it
+pub mapped_more : {X Y : Type 0} (f : X → Y) (xs : List X) (i : ℕ) (x : X) → slice_get xs i ≡ Some x → map f (take (i + 1) xs) ≡ map f (take i xs) ++ f x ∷ []
+mapped_more f xs i x e =
+    let at : get_or xs i x ≡ x = get_or_from_slice_get xs i x x e in
+    ap (map f) (take_more xs i x (slice_get_within xs i x e) ∙ ap (λ y. take i xs ++ y ∷ []) at) ∙ map-append f (take i xs) (x ∷ [])
 
 -- what holds of one more element
 pub within_more : {X : Type 0} (P : X → Type 0) (xs : List X) (i : ℕ) (x : X) → AllWithin P xs 0 i → slice_get xs i ≡ Some x → P x → AllWithin P xs 0 (i + 1)

@@ -36,7 +36,7 @@ all_kept [] = Ok []
 all_kept (one ∷ more) = result_and_then (λ i. result_and_then (λ is. Ok (i ∷ is)) (all_kept more)) one
 
 -- one more item behind those that are kept, unless there is a fault
-abbrev pub with_item : Result (List Item) ParamFault → Result Item ParamFault → Result (List Item) ParamFault
+abbrev pub with_item : {T : Type 0} → Result (List T) ParamFault → Result T ParamFault → Result (List T) ParamFault
 with_item kept one = result_and_then (λ is. result_and_then (λ i. Ok (is ++ i ∷ [])) one) kept
 
 -- every value has the form of an item; then the numbers of each

@@ -7,7 +7,7 @@ use Rattle.edit_script.specs.declared.history_form.StatedHistory.{StatedHistory}
 use Rattle.edit_script.specs.Opening.{Stated}
 
 -- items or a fault, seen as a list or the fault
-abbrev pub seen_items : {E : Type 0} → Result (Vec Item Global) E → Result (List Item) E
+abbrev pub seen_items : {T E : Type 0} → Result (Vec T Global) E → Result (List T) E
 seen_items kept = result_map_both (λ v. v.items) (λ f. f) kept
 
 abbrev pub seen_stated : StatedHistory → Stated

@@ -27,7 +27,7 @@ pub(crate) struct StatedHistory {
 }
 
 // One more item behind those that were kept, unless there was a fault.
-fn and_item(kept: Ranged<Vec<Item>>, item: Ranged<Item>) -> Result<Ranged<Vec<Item>>, AllocError>
+fn and_item<T: Copy>(kept: Ranged<Vec<T>>, item: Ranged<T>) -> Result<Ranged<Vec<T>>, AllocError>
     ensures { IfOk result (λ r. seen_items r ≡ with_item (seen_items kept) item) }
 {
     let mut items = match kept {
@@ -46,8 +46,10 @@ fn kept_items(alloc: Global, values: &[Value]) -> Result<Ranged<Vec<Item>>, Form
 {
     let mut kept = Ok(Vec::new(alloc));
     for value in values {
-        let item = item_form(alloc, value)?;
-        kept = and_item(kept, item)?;
+        match item_form(alloc, value) {
+            Ok(item) => kept = and_item(kept, item)?,
+            Err(end) => return Err(end),
+        }
     }
     Ok(kept)
 }

@@ -69,8 +69,10 @@ fn step_of(alloc: Global, number: u32, value: &Value) -> Result<Step, ScriptEnd>
 fn step_behind(alloc: Global, draft: &mut Draft, value: &Value) -> Result<(), ScriptEnd>
     ensures { IsReadAs (λ _. draft.new) result (step_behind draft.old (view value.now)) }
 {
-    let step = step_of(alloc, draft.next_step(), value)?;
-    draft.push(alloc, step)
+    match step_of(alloc, draft.next_step(), value) {
+        Ok(step) => draft.push(alloc, step),
+        Err(end) => Err(end),
+    }
 }
 
 fn steps_behind(alloc: Global, draft: &mut Draft, values: &[Value]) -> Result<(), ScriptEnd>
