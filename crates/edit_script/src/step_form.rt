@@ -224,7 +224,9 @@ fn set_of(item: Ranged<Item>) -> Ranged<Step>
 fn set_form(alloc: Global, value: &Value) -> Result<Ranged<Step>, FormEnd>
     ensures { IsFormed (λ s. s) result (set_form (view value.now)) }
 {
-    let keys = ["do", "module", "instance", "enabled", "version", "params", "blend"];
+    let keys = [
+        "do", "module", "instance", "enabled", "version", "params", "blend",
+    ];
     if !has_only(value, &keys) {
         return Err(FormEnd::Form);
     }

@@ -47,8 +47,9 @@ pub(crate) fn limit_fault(before: &[Step], step: &Step) -> Option<Reason>
         Step::Export { .. } => {
             (count_sort(before, Sort::Export) >= MAX_EXPORTS).then_some(Reason::TooManyExports)
         }
-        Step::Thumbnail { .. } => (count_sort(before, Sort::Thumbnail) >= MAX_THUMBNAILS)
-            .then_some(Reason::TooManyThumbnails),
+        Step::Thumbnail { .. } => (count_sort(before, Sort::Thumbnail) >= MAX_THUMBNAILS).then_some(
+            Reason::TooManyThumbnails,
+        ),
         Step::Settle => {
             (count_sort(before, Sort::Settle) >= MAX_SETTLES).then_some(Reason::TooManySettles)
         }

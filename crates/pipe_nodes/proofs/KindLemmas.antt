@@ -86,7 +86,7 @@ run_along : (k : PlaneKind) (items : List Item) (rest : List Slot) → IsRun k (
 run_along k items rest =
     put_early k (active_at items (slot 0 0)) _ (early_behind (slot 0 0) (last_of (slot 0 0) items) (omega arith) (last_of_is (slot 0 0) items))
     (put_early k (active_at items (slot 1 0)) _ (early_behind (slot 1 0) (last_of (slot 1 0) items) (omega arith) (last_of_is (slot 1 0) items))
-        (record { takes = (tt, all_take_rgb (filter_map (active_at items) rest)); rgb = behind_rgb (filter_map (active_at items) rest) }))
+    (record { takes = (tt, all_take_rgb (filter_map (active_at items) rest)); rgb = behind_rgb (filter_map (active_at items) rest) }))
 
 -- what is active in a history is a run from every kind of picture
 pub actives-run : (h : Stack) → IsOrder h.order → (k : PlaneKind) → IsRun k (actives_of h)

@@ -44,7 +44,11 @@ fn step<R: Threads + Sync>(
     let (w, h) = input.sides();
     let (columns, rows) = roi_out(&active.params, w, h);
     let region = Region::whole(columns, rows);
-    prove!(input.region().covers(roi_back(&active.params, w, h, region)));
+    prove!(
+        input
+            .region()
+            .covers(roi_back(&active.params, w, h, region))
+    );
     apply(rt, alloc, active, level, input, region)
 }
 

@@ -1,8 +1,8 @@
 use params::{
     Blend, BoxBlur, ChannelMixer, Crop, Exposure, Field, JsonEnd, Module, Nodes20, OldParams,
-    Orientation, ParamFault, Params, RawPrepare, Shape, Sharpen, Temperature, ToneCurve, blend_of_json,
-    blend_to_json, check, check_blend, check_old, copy, migrate, mode_named, module_named, of_json,
-    to_json,
+    Orientation, ParamFault, Params, RawPrepare, Shape, Sharpen, Temperature, ToneCurve,
+    blend_of_json, blend_to_json, check, check_blend, check_old, copy, migrate, mode_named,
+    module_named, of_json, to_json,
 };
 use serde_json::Value;
 use std::alloc::Global;
@@ -108,12 +108,7 @@ const FORMS: [&str; 24] = [
     r#"mask 0 {"shape":"gradient","ax":0,"ay":0,"dx":1,"dy":0,"slope":1,"a":1}"#,
 ];
 
-fn read(
-    alloc: Global,
-    what: &str,
-    version: u32,
-    text: &str,
-) -> Result<Result<(), JsonEnd>, Fail> {
+fn read(alloc: Global, what: &str, version: u32, text: &str) -> Result<Result<(), JsonEnd>, Fail> {
     if what == "mask" {
         let text = format!(in alloc; "{{\"mask\":{text},\"mode\":\"add\",\"opacity\":0}}")?;
         let value = Value::from_str(alloc, text.as_str())?;
@@ -187,7 +182,10 @@ fn the_first_fault_counts(rt: HostRuntime) -> Result<(), Fail> {
         let (at, line) = cut(line)?;
         let (value, text) = cut(line)?;
         let fault = (field, at.parse::<u32>()?, value.parse::<i64>()?);
-        assert!(rt; fault_of(rt.alloc(), what, version, text)? == Some(fault), "{text}");
+        assert!(rt;
+            fault_of(rt.alloc(), what, version, text)? == Some(fault),
+            "{text}"
+        );
     }
     Ok(())
 }
@@ -274,7 +272,8 @@ fn settings_are_written_and_read_again(rt: HostRuntime) -> Result<(), Fail> {
         green,
         blue: red,
     };
-    let text = r#"{"blue":[[100,200],[300,100],[1000,5000]],"green":[[0,0],[1,1]],"red":[[100,200],[300,100],[1000,5000]]}"#;
+    let text =
+        r#"{"blue":[[100,200],[300,100],[1000,5000]],"green":[[0,0],[1,1]],"red":[[100,200],[300,100],[1000,5000]]}"#;
     assert!(rt; is_read_again(alloc, &Params::ToneCurve(curve), text)?);
     let blur = BoxBlur { radius: 64 };
     assert!(rt; is_read_again(alloc, &Params::BoxBlur(blur), r#"{"radius":64}"#)?);
@@ -316,7 +315,10 @@ fn settings_of_version_1_become_those_of_version_2(rt: HostRuntime) -> Result<()
         at: 2,
         value: 5,
     };
-    assert_eq!(rt; check_old(&OldParams::ToneCurve1 { nodes: level }), Err(fault));
+    assert_eq!(rt;
+        check_old(&OldParams::ToneCurve1 { nodes: level }),
+        Err(fault)
+    );
     Ok(())
 }
 

@@ -65,4 +65,3 @@ returns-in_ok-made-in-BoxBlur g c = applied c.args.active.now.params (params.Box
 
 pub returns-in_ok-made-in-Sharpen : goal.returns-in_ok-made-in-Sharpen
 returns-in_ok-made-in-Sharpen g c = applied c.args.active.now.params (params.Sharpen c.in-Sharpen.sharpen) c.args.level c.args.input.now c.args.region c.in_ok-made-in-Sharpen.made c.in-Sharpen.is c.in_ok-made-in-Sharpen.ensures.area c.in_ok-made-in-Sharpen.ensures.cut
-
