@@ -24,9 +24,9 @@ case_of() { # name, wanted status, wanted line, words
   rm -f out.ppm
 }
 case_of "an empty script" 2 "script refused at step 0: text" develop empty source.ppm out.ppm
-case_of "an empty source" 8 "not yet: source" develop script.json empty out.ppm
-case_of "a huge number in the header" 8 "not yet: source" develop script.json huge.ppm out.ppm
-case_of "a raster one byte short" 8 "not yet: source" develop script.json short.ppm out.ppm
+case_of "an empty source" 3 "source refused at byte 0: bad magic" develop script.json empty out.ppm
+case_of "a huge number in the header" 3 "source refused at byte 3: too large" develop script.json huge.ppm out.ppm
+case_of "a raster one byte short" 3 "source refused at byte 13: short" develop script.json short.ppm out.ppm
 case_of "a script that is no UTF-8" 2 "script refused at step 0: text" develop not-utf8.json source.ppm out.ppm
 case_of "a script of 128 nested lists" 2 "script refused at step 0: text" develop deep.json source.ppm out.ppm
 case_of "a step that the history doesn't allow" 2 "script refused at step 2: end past" develop past.json source.ppm out.ppm
