@@ -26,7 +26,7 @@ IsBuiltStep (steps.Export size depth) = ⊤
 IsBuiltStep (steps.Thumbnail size) = ⊤
 IsBuiltStep steps.Settle = ⊤
 
--- each item, of the opening history and of the steps, is of a module that is built, and has no blend
+-- no item, of the opening history and of the steps, has a blend
 pub record IsBuiltScript (r : Recipe) : Type 0 where
   pub opening : All IsPlainItem r.opening.items
   pub steps : All IsBuiltStep r.steps

@@ -38,8 +38,8 @@ fn are_built_steps(steps: &[Step]) -> bool
     steps.iter().all(|step| is_built_step(step))
 }
 
-/// Whether a run can make each picture of the script so far: each item, of the opening history and of the
-/// steps, is of demosaic or of exposure, and has no blend.
+/// Whether a run can make each picture of the script so far: no item, of the opening history and of the
+/// steps, has a blend.
 pub fn is_built(script: &Script) -> bool
     ensures { IsTrue result ↔ IsBuiltScript script.now }
 {

@@ -10,4 +10,4 @@ returns-in-Ok-clause-source g c =
 
 pub returns-in-Err-Fault-clause-cause : goal.returns-in-Err-Fault-clause-cause
 returns-in-Err-Fault-clause-cause g c =
-    IfSome_then _ c.in_ok-bytes.ensures.content (λ fs content. has_bad_source c.args.name.now c.args.cfa c.in-Err-Fault.fault fs c.args.front _ c.requires.front (rw (← c.as_slice.ensures.value) (rw c.in-Err-Fault.fault-is at c.in-Err-Fault.ensures.fault).0) content)
+    IfSome_then _ c.in_ok-bytes.ensures.content (λ fs content. has_bad_source c.args.name.now c.args.cfa c.in-Err-Fault.fault fs c.args.front _ c.requires.front (rw (← c.as_slice.ensures.value) (rw c.in-Err-Fault.field-0-is at c.in-Err-Fault.ensures.fault).0) content)
