@@ -1,8 +1,9 @@
 -- what a replay makes of its files
-use Rattle.std.proofs.Common.{◌≡◌, ◌↔◌, ℕ, List, [], ◌∷◌, length, refl, ap, subst, ◌∙◌, Option, inr}
+use Rattle.std.proofs.Common.{◌≡◌, ◌↔◌, ℕ, List, [], ◌∷◌, length, refl, ap, sym, subst, ◌∙◌, Option, Some, None, inl, inr, arith}
 use Rattle.std.specs.Prelude.{IsTrue, IfSome}
-use Rattle.outside.specs.Faults.{NoneFalls}
+use Rattle.outside.specs.Faults.{NoneFalls, Rose}
 use Rattle.outside.specs.Shelf.{Files}
+use Rattle.outside.proofs.FaultLaws.{Rose-wider}
 use Rattle.outside.proofs.Told.{if_both}
 use Rattle.dev_core.specs.Desk.{IsComplete}
 use Rattle.dev_core.specs.DeskState.{DeskSeen}
@@ -18,10 +19,14 @@ use Rattle.publish.specs.Files.{Put, RoseAt, ArePut, AreCutShort, files, desk_fi
 use Rattle.publish.proofs.PutLemmas.{put_fails_since}
 use Rattle.develop_session.specs.declared.tally.Tally.{Tally}
 use Rattle.develop_session.specs.Words.{Replay}
-use Rattle.develop_session.specs.Files.{HasEvents}
-use Rattle.develop_session.specs.Failures.{put_status}
-use Rattle.develop_session.specs.Replay.{HasSubject, HasReplay, IsTally, IsReplayed, IsCutShort, outcome_of, files_of}
-use Rattle.develop_session.specs.Replies.{Declines}
+use Rattle.develop_session.specs.declared.status.Input.TheVariants as input
+use Rattle.develop_session.specs.declared.status.Status.{Status}
+use Rattle.develop_session.specs.declared.status.Status.TheVariants as status
+use Rattle.develop_session.specs.Files.{HasEvents, HasNoEvents}
+use Rattle.develop_session.specs.Failures.{put_status, EventsFail, Tells}
+use Rattle.develop_session.specs.Replay.{HasSubject, HasSomeSubject, HasReplay, IsTally, IsReplayed, IsCutShort, outcome_of, files_of}
+use Rattle.develop_session.specs.Replies.{Declines, Replies}
+use Rattle.develop_session.specs.Texts.{refusal_text}
 
 -- an event leaves the subject
 step_subject : (o : OutcomeSeen) (e : Event) → (outcome_after o e).core.subject ≡ o.core.subject
@@ -108,3 +113,37 @@ put_declines c s es o d old later latest new read_rose early late now why same a
       puts = subst (λ ps. AreCutShort ps (RoseAt early now) old new why) whole
           (subst (λ x. AreCutShort (desk_files d) (RoseAt early now) x new why) (again ∙ same) (cut_since (desk_files d) early late now latest new why falls cut));
     })
+
+some_subject : (c : Replay) (s : SubjectSeen) (old : Option Files) → IfSome old (λ fs. HasSubject c fs s) → IfSome old (HasSomeSubject c)
+some_subject c s None h = tt
+some_subject c s (Some fs) h = (s, h)
+
+-- the events weren't read
+pub events_decline : (c : Replay) (s : SubjectSeen) (old later new : Option Files) (early late now : List ℕ → ℕ) (put_rose : List ℕ → Type 0) (why : Status) → later ≡ old → new ≡ later → NoneFalls early late
+    → IfSome old (λ fs. HasSubject c fs s) → EventsFail c.events later (Rose (late c.events) (now c.events)) why → Declines c old new (RoseAt early now) put_rose why
+events_decline c s old later new early late now put_rose status.OutOfMemory same again falls subject fails = inl (again ∙ same)
+events_decline c s old later new early late now put_rose (status.NotYet input.Events) same again falls subject fails =
+    (again ∙ same, if_both old later same (some_subject c s old subject) fails (λ fs p q. (p, q)))
+events_decline c s old later new early late now put_rose (status.ShelfFault at) same again falls subject fails =
+    inr (inr (inl (fails.0, subst (RoseAt early now) (sym fails.0) (Rose-wider (early c.events) (late c.events) (now c.events) (now c.events) (falls c.events) fails.1 (omega arith)), again ∙ same, some_subject c s old subject)))
+events_decline c s old later new early late now put_rose (status.NotYet input.Script) same again falls subject fails = absurd fails
+events_decline c s old later new early late now put_rose (status.NotYet input.Source) same again falls subject fails = absurd fails
+events_decline c s old later new early late now put_rose status.Ok same again falls subject fails = absurd fails
+events_decline c s old later new early late now put_rose status.Usage same again falls subject fails = absurd fails
+events_decline c s old later new early late now put_rose (status.ScriptRefused step reason) same again falls subject fails = absurd fails
+events_decline c s old later new early late now put_rose (status.SourceRefused fault) same again falls subject fails = absurd fails
+events_decline c s old later new early late now put_rose (status.EventsRefused place reason) same again falls subject fails = absurd fails
+events_decline c s old later new early late now put_rose status.SaidFault same again falls subject fails = absurd fails
+
+-- a refusal and its line make the answer
+pub declines_reply : (c : Replay) (old new : Option Files) (read_rose put_rose : List ℕ → Type 0) (said_rose : Type 0) (was is : Option (List ℕ)) (why : Status) → Declines c old new read_rose put_rose why
+    → Tells (refusal_text why) said_rose was is → Replies c old new read_rose put_rose said_rose was is why
+declines_reply c old new read_rose put_rose said_rose was is status.OutOfMemory declines tells = inl (declines, tells)
+declines_reply c old new read_rose put_rose said_rose was is (status.NotYet what) declines tells = (declines, tells)
+declines_reply c old new read_rose put_rose said_rose was is (status.ShelfFault name) declines tells = (declines, tells)
+declines_reply c old new read_rose put_rose said_rose was is (status.ScriptRefused step reason) declines tells = (declines, tells)
+declines_reply c old new read_rose put_rose said_rose was is (status.SourceRefused fault) declines tells = (declines, tells)
+declines_reply c old new read_rose put_rose said_rose was is (status.EventsRefused place reason) declines tells = (declines, tells)
+declines_reply c old new read_rose put_rose said_rose was is status.Ok declines tells = absurd declines
+declines_reply c old new read_rose put_rose said_rose was is status.Usage declines tells = absurd declines
+declines_reply c old new read_rose put_rose said_rose was is status.SaidFault declines tells = absurd declines

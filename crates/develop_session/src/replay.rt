@@ -1,7 +1,6 @@
 //! `stepped`: the files of the journal that a list of events makes.
 ghost use Rattle.std.specs.Prelude.{◌≡◌, ◌↔◌, ◌≤◌, length, IfOk, IfErr, IfSome, IsTrue};
 ghost use Rattle.std.specs.Arc.{arc_value};
-ghost use Rattle.px.specs.declared.kind.PlaneKind.TheVariants.{Rgb};
 ghost use Rattle.px.specs.Cut.{IsWhole};
 ghost use Rattle.outside.specs.Faults.{Rose, NoneFalls};
 ghost use Rattle.dev_core.specs.Built.{IsBuiltScript};
@@ -34,7 +33,6 @@ use std::thread::Threads;
 use stepped::{Event, EventReason, Outcome, StepEnd, stepped};
 
 fn subject_of(alloc: Global, script: Script, plane: Plane) -> Result<Arc<Subject>, AllocError>
-    requires rgb { plane.kind ≡ Rgb }
     requires whole { IsWhole plane }
     requires built { IsBuiltScript script }
     ensures { IfOk result (λ s. arc_value s ≡ record { source = plane; script = script }) }

@@ -70,6 +70,18 @@ fn try_edit(
     Ok(Ok(history.apply(alloc, edit)?))
 }
 
+// The same for an edit that may have failed to be made.
+fn try_made(
+    alloc: Global,
+    history: &mut History,
+    made: Result<Edit, Fail>,
+) -> Result<Result<Kind, EditFault>, Fail> {
+    match made {
+        Ok(edit) => Ok(try_edit(alloc, history, &edit)?),
+        Err(fail) => Err(fail),
+    }
+}
+
 fn setting_edit(step: usize) -> Result<Edit, Fail> {
     Ok(match step {
         0 => Edit::Set(exposure(0, 8192)),
@@ -88,9 +100,12 @@ fn eight_edits_make_these_kinds_and_items(rt: HostRuntime) -> Result<(), Fail> {
     let alloc = rt.alloc();
     let mut history = History::start(alloc)?;
     for step in 0..8 {
-        let edit = setting_edit(step)?;
         let kind = if step == 4 { Kind::Top } else { Kind::Synch };
-        assert_eq!(rt; try_edit(alloc, &mut history, &edit)?, Ok(kind), "{step}");
+        assert_eq!(rt;
+            try_made(alloc, &mut history, setting_edit(step))?,
+            Ok(kind),
+            "{step}"
+        );
         if step == 4 {
             assert!(rt; is_shown(&history, &[(Module::Exposure, 0, 2048)], 1));
         }
@@ -131,8 +146,11 @@ fn a_deleted_instance_takes_its_items_along(rt: HostRuntime) -> Result<(), Fail>
     let (synch, remove) = (Kind::Synch, Kind::Remove);
     let kinds = [synch, synch, remove, synch, synch, remove, remove];
     for (step, kind) in kinds.iter().enumerate() {
-        let edit = instance_edit(step)?;
-        assert_eq!(rt; try_edit(alloc, &mut history, &edit)?, Ok(*kind), "{step}");
+        assert_eq!(rt;
+            try_made(alloc, &mut history, instance_edit(step))?,
+            Ok(*kind),
+            "{step}"
+        );
     }
     let last = [(Module::ToneCurve, 0, 0), (Module::Exposure, 1, 256)];
     assert!(rt; is_shown(&history, &last, 1));
