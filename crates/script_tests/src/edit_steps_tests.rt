@@ -1,5 +1,4 @@
-ghost use Rattle.std.specs.Prelude.{◌≤◌, IfOk};
-ghost use Rattle.std.specs.List.{All};
+ghost use Rattle.std.specs.Prelude.{◌≤◌};
 ghost use Rattle.edit_steps.specs.Ranges.{IsSettings, IsStepWithin};
 ghost use Rattle.edit_steps.specs.Script.{changes};
 
@@ -98,16 +97,14 @@ fn brighter() -> Step
     }))
 }
 
-// An edit, a view, an undo and a settle.
-fn four_steps(alloc: Global) -> Result<Vec<Step>, AllocError>
-    ensures { IfOk result (λ steps. All IsStepWithin steps.items) }
-{
-    let mut steps = Vec::with_capacity(alloc, 4)?;
-    steps.push(brighter())?;
-    steps.push(Step::View(NEXT_VIEW))?;
-    steps.push(Step::Undo)?;
-    steps.push(Step::Settle)?;
-    Ok(steps)
+// The script of an edit, a view, an undo and a settle.
+fn four_steps(alloc: Global) -> Result<Script, Fail> {
+    let mut draft = start(alloc)?;
+    draft.push(alloc, brighter())?;
+    draft.push(alloc, Step::View(NEXT_VIEW))?;
+    draft.push(alloc, Step::Undo)?;
+    draft.push(alloc, Step::Settle)?;
+    Ok(draft.finish())
 }
 
 fn items_at(alloc: Global, script: &Script, m: u32) -> Result<usize, AllocError>
@@ -119,8 +116,7 @@ fn items_at(alloc: Global, script: &Script, m: u32) -> Result<usize, AllocError>
 #[test]
 fn an_undo_leaves_the_view_and_concerns_every_pipe(rt: HostRuntime) -> Result<(), Fail> {
     let alloc = rt.alloc();
-    let history = History::start(alloc)?;
-    let script = Script::of(alloc, Settings::start(), history, four_steps(alloc)?)?;
+    let script = four_steps(alloc)?;
     assert!(rt; script.changes() == 3);
     assert_eq!(rt; script.view_at(1), Settings::start().view);
     assert_eq!(rt; script.view_at(3), NEXT_VIEW);
