@@ -6,7 +6,7 @@ program="$(cd "$(dirname "$0")/../.." && pwd)/bin/devcore"
 "$program" --help > /dev/null # builds it, where it isn't built yet
 small="$(mktemp -d)"; large="$(mktemp -d)"
 mount -t tmpfs -o size=64k tmpfs "$small" || exit 2
-trap 'umount "$small"; rmdir "$small"; rm -rf "$large"' EXIT
+trap 'cd /; umount "$small"; rmdir "$small"; rm -rf "$large"' EXIT
 failed=0
 verdict() { # name, whether it holds (0 or not)
   if [ "$2" = 0 ]; then echo "ok    $1"; else echo "WRONG $1"; failed=1; fi
