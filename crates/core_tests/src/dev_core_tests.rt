@@ -6,7 +6,7 @@ use std::test::Fail;
 #[test]
 fn a_job_that_is_published_leaves_its_frame(rt: HostRuntime) -> Result<(), Fail> {
     let alloc = rt.alloc();
-    let mut desk = DeskState::start(alloc, subject(&rt, alloc)?)?;
+    let mut desk = DeskState::start(alloc, subject(alloc)?)?;
     assert!(rt; desk.is_due(JobName::Pipe(Pipe::Full)));
     assert_eq!(rt; desk.next_step(), NextStep::Close);
     let job = desk.take_pipe(alloc, Pipe::Full, 1)?;

@@ -1,10 +1,9 @@
 //! A script without steps over a picture of one pixel.
-use dev_core::{Subject, is_built};
+use dev_core::Subject;
 use edit_steps::{Script, Settings};
 use history::History;
 use modules_raw::Source;
 use std::alloc::{AllocError, Global};
-use std::process::Abort;
 use std::sync::Arc;
 use std::test::Fail;
 
@@ -12,7 +11,7 @@ use std::test::Fail;
 pub(crate) const PIXEL: &[u8] = b"P6\n1 1\n255\n\x20\x20\x20";
 
 /// The subject of the script and the picture.
-pub(crate) fn subject<R: Abort>(rt: &R, alloc: Global) -> Result<Arc<Subject>, Fail> {
+pub(crate) fn subject(alloc: Global) -> Result<Arc<Subject>, Fail> {
     let plane = pnm::read(alloc, PIXEL, None)?;
     let source = Arc::new(alloc, Source::of(plane)).map_err(AllocError::from)?;
     let script = Script::of(
@@ -21,6 +20,5 @@ pub(crate) fn subject<R: Abort>(rt: &R, alloc: Global) -> Result<Arc<Subject>, F
         History::start(alloc)?,
         Vec::new(alloc),
     )?;
-    assert!(rt; is_built(&script));
     Ok(Arc::new(alloc, Subject::of(source, script)).map_err(AllocError::from)?)
 }

@@ -1,3 +1,2 @@
-pub mod BuiltLemmas
 pub mod DeskLemmas
 pub mod OwnLemmas

@@ -1,5 +1,4 @@
 pub mod Room
-pub mod Built
 pub mod Subject
 pub mod Jobs
 pub mod Desk

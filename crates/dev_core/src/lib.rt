@@ -6,7 +6,6 @@
 #![tactic(auto)]
 
 mod behind;
-mod built;
 mod desk;
 mod desk_state;
 mod entry;
@@ -16,7 +15,6 @@ mod room;
 mod showing;
 mod subject;
 
-pub use built::is_built;
 pub use desk_state::DeskState;
 pub use entry::{Entry, NextStep};
 pub use frame::Frame;

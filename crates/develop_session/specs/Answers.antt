@@ -2,13 +2,11 @@
 use Rattle.std.specs.Prelude.{◌≡◌, ◌⊎◌, ℕ, List, Option, Some, None, IfSome}
 use Rattle.outside.specs.Shelf.{Files}
 use Rattle.outside.specs.Said.{Says, SaysInPart}
-use Rattle.develop_session.specs.declared.status.Input.TheVariants as input
 use Rattle.develop_session.specs.declared.status.Status.{Status}
 use Rattle.develop_session.specs.declared.status.Status.TheVariants as status
 use Rattle.develop_session.specs.Words.{Command}
 use Rattle.develop_session.specs.Texts.{developed_text, refusal_text}
-use Rattle.dev_core.specs.Built.{IsBuiltScript}
-use Rattle.develop_session.specs.Files.{HasBadScript, HasScriptThat, HasScriptBut, HasBadSource}
+use Rattle.develop_session.specs.Files.{HasBadScript, HasSomeScript, HasScriptThat, HasBadSource}
 use Rattle.develop_session.specs.Develop.{IsDeveloped, IsPutInPart}
 use Rattle.develop_session.specs.Failures.{Tells}
 
@@ -26,11 +24,10 @@ PutFails c (Some fs) new = IsPutInPart c fs new
 abbrev pub Refuses : Command → Option Files → Option Files → (List ℕ → Type 0) → (List ℕ → Type 0) → Status → Type 0
 Refuses c old new read_rose put_rose status.OutOfMemory = new ≡ old
 Refuses c old new read_rose put_rose (status.ScriptRefused step reason) = (new ≡ old) × IfSome old (HasBadScript c.script (record { step = step; reason = reason }))
-Refuses c old new read_rose put_rose (status.NotYet input.Script) = (new ≡ old) × IfSome old (HasScriptBut IsBuiltScript c.script)
-Refuses c old new read_rose put_rose (status.SourceRefused fault) = (new ≡ old) × IfSome old (λ fs. HasScriptThat (λ r. IsBuiltScript r × HasBadSource c.source r.settings.cfa fault fs) c.script fs)
+Refuses c old new read_rose put_rose (status.SourceRefused fault) = (new ≡ old) × IfSome old (λ fs. HasScriptThat (λ r. HasBadSource c.source r.settings.cfa fault fs) c.script fs)
 Refuses c old new read_rose put_rose (status.ShelfFault name) =
     ((name ≡ c.script) × read_rose name × (new ≡ old))
-    ⊎ (((name ≡ c.source) × read_rose name × (new ≡ old) × IfSome old (HasScriptThat IsBuiltScript c.script))
+    ⊎ (((name ≡ c.source) × read_rose name × (new ≡ old) × IfSome old (HasSomeScript c.script))
     ⊎ ((name ≡ c.out) × put_rose name × PutFails c old new))
 Refuses c old new read_rose put_rose _ = ⊥
 
@@ -47,7 +44,6 @@ Answers c old new read_rose put_rose said_rose was is (status.ScriptRefused step
     Refuses c old new read_rose put_rose (status.ScriptRefused step reason) × Tells (refusal_text (status.ScriptRefused step reason)) said_rose was is
 Answers c old new read_rose put_rose said_rose was is (status.SourceRefused fault) =
     Refuses c old new read_rose put_rose (status.SourceRefused fault) × Tells (refusal_text (status.SourceRefused fault)) said_rose was is
-Answers c old new read_rose put_rose said_rose was is (status.NotYet what) =
-    Refuses c old new read_rose put_rose (status.NotYet what) × Tells (refusal_text (status.NotYet what)) said_rose was is
+Answers c old new read_rose put_rose said_rose was is (status.NotYet what) = ⊥
 Answers c old new read_rose put_rose said_rose was is (status.ShelfFault name) =
     Refuses c old new read_rose put_rose (status.ShelfFault name) × Tells (refusal_text (status.ShelfFault name)) said_rose was is

@@ -4,7 +4,6 @@ use Rattle.px.specs.Picture.{Picture}
 use Rattle.pnm.specs.Pnm.{written}
 use Rattle.outside.specs.Shelf.{Files, with_file, PutsInPart}
 use Rattle.edit_steps.specs.Script.{Recipe, changes}
-use Rattle.dev_core.specs.Built.{IsBuiltScript}
 use Rattle.dev_core.specs.Subject.{picture_at}
 use Rattle.develop_session.specs.Files.{HasScript, HasSource}
 use Rattle.develop_session.specs.Words.{Command}
@@ -23,7 +22,6 @@ pub record IsDeveloped (c : Command) (fs : Files) (w h : ℕ) (new : Option File
   pub recipe : Recipe
   pub picture : Picture
   pub script : HasScript c.script fs recipe
-  pub built : IsBuiltScript recipe
   pub source : HasSource c.source recipe.settings.cfa fs picture
   pub wide : (developed recipe picture).w ≡ w
   pub high : (developed recipe picture).h ≡ h
@@ -34,6 +32,5 @@ pub record IsPutInPart (c : Command) (fs : Files) (new : Option Files) : Type 0 
   pub recipe : Recipe
   pub picture : Picture
   pub script : HasScript c.script fs recipe
-  pub built : IsBuiltScript recipe
   pub source : HasSource c.source recipe.settings.cfa fs picture
   pub put : PutsInPart c.out (out_bytes recipe picture) (Some fs) new

@@ -5,7 +5,6 @@ use Rattle.outside.specs.Shelf.{Files, PutsInPart}
 use Rattle.outside.specs.Said.{Says, SaysInPart}
 use Rattle.outside.specs.declared.failed.Failed.{Failed}
 use Rattle.outside.specs.declared.failed.Failed.TheVariants as failed
-use Rattle.edit_steps.specs.Script.{Recipe}
 use Rattle.dev_core.specs.Subject.{SubjectSeen}
 use Rattle.stepped.specs.declared.event.Event.{Event}
 use Rattle.stepped.specs.declared.fault.EventReason.TheVariants.{NotAllowed}
@@ -37,20 +36,20 @@ PutFailsAt name bytes rose old new status.OutOfMemory = new ≡ old
 PutFailsAt name bytes rose old new (status.ShelfFault at) = (at ≡ name) × rose × PutsInPart name bytes old new
 PutFailsAt name bytes rose old new _ = ⊥
 
--- the script wasn't read, or is one of which this doesn't hold
-abbrev pub ScriptFails : (Recipe → Type 0) → List ℕ → Option Files → Type 0 → Status → Type 0
-ScriptFails P name old rose (status.ScriptRefused step reason) = IfSome old (HasBadScript name (record { step = step; reason = reason }))
-ScriptFails P name old rose (status.NotYet input.Script) = IfSome old (HasScriptBut P name)
-ScriptFails P name old rose status.OutOfMemory = Unit {0}
-ScriptFails P name old rose (status.ShelfFault at) = (at ≡ name) × rose
-ScriptFails P name old rose _ = ⊥
+-- the script wasn't read
+abbrev pub ScriptFails : List ℕ → Option Files → Type 0 → Status → Type 0
+ScriptFails name old rose (status.ScriptRefused step reason) = IfSome old (HasBadScript name (record { step = step; reason = reason }))
+ScriptFails name old rose status.OutOfMemory = Unit {0}
+ScriptFails name old rose (status.ShelfFault at) = (at ≡ name) × rose
+ScriptFails name old rose _ = ⊥
 
--- the text of a script wasn't read
-abbrev pub ReadFails : List ℕ → Option Files → Type 0 → Status → Type 0
-ReadFails name old rose (status.ScriptRefused step reason) = IfSome old (HasBadScript name (record { step = step; reason = reason }))
-ReadFails name old rose status.OutOfMemory = Unit {0}
-ReadFails name old rose (status.ShelfFault at) = (at ≡ name) × rose
-ReadFails name old rose _ = ⊥
+-- the script wasn't read, or is one that no replay serves so far
+abbrev pub ServedScriptFails : List ℕ → Option Files → Type 0 → Status → Type 0
+ServedScriptFails name old rose (status.ScriptRefused step reason) = IfSome old (HasBadScript name (record { step = step; reason = reason }))
+ServedScriptFails name old rose (status.NotYet input.Script) = IfSome old (HasScriptBut IsServed name)
+ServedScriptFails name old rose status.OutOfMemory = Unit {0}
+ServedScriptFails name old rose (status.ShelfFault at) = (at ≡ name) × rose
+ServedScriptFails name old rose _ = ⊥
 
 -- the source wasn't read
 abbrev pub SourceFails : List ℕ → Option Cfa → Option Files → Type 0 → Status → Type 0

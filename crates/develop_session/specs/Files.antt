@@ -24,6 +24,10 @@ pub record HasBadScript (name : List ℕ) (fault : ScriptFault) (fs : Files) : T
   pub stands : held fs name ≡ Some bytes
   pub reads : script_of bytes ≡ Err fault
 
+-- some script stands there
+abbrev pub HasSomeScript : List ℕ → Files → Type 0
+HasSomeScript name fs = (script : Recipe) × HasScript name fs script
+
 -- a script stands there, of which this holds
 abbrev pub HasScriptThat : (Recipe → Type 0) → List ℕ → Files → Type 0
 HasScriptThat P name fs = (script : Recipe) × HasScript name fs script × P script

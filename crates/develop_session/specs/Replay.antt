@@ -9,7 +9,6 @@ use Rattle.edit_steps.specs.declared.step.Step.{Step}
 use Rattle.edit_steps.specs.declared.step.Step.TheVariants as steps
 use Rattle.edit_steps.specs.Script.{Recipe}
 use Rattle.edit_steps.specs.Settings.{start_view}
-use Rattle.dev_core.specs.Built.{IsBuiltScript}
 use Rattle.dev_core.specs.Desk.{IsComplete}
 use Rattle.dev_core.specs.Lines.{Line, lines}
 use Rattle.dev_core.specs.Subject.{SubjectSeen}
@@ -38,10 +37,8 @@ IsServedStep (steps.Export size depth) = ⊥
 IsServedStep (steps.Thumbnail size) = ⊥
 IsServedStep steps.Settle = ⊥
 
--- a replay serves the script so far: a run can make each picture of it, the desk serves each step, the view is the default, and there
--- is no second window
+-- a replay serves the script so far: the desk serves each step, the view is the default, and there is no second window
 pub record IsServed (script : Recipe) : Type 0 where
-  pub built : IsBuiltScript script
   pub steps : All IsServedStep script.steps
   pub view : script.settings.view ≡ start_view
   pub second : script.settings.second ≡ None

@@ -1,7 +1,6 @@
 //! `develop`: one picture of one history, from bytes to bytes.
 ghost use Rattle.std.specs.Prelude.{◌≡◌, IfOk, IfErr};
 ghost use Rattle.px.specs.Cut.{picture_of};
-ghost use Rattle.dev_core.specs.Built.{IsBuiltScript};
 ghost use Rattle.outside.specs.Faults.{Rose};
 ghost use Rattle.publish.specs.Files.{RoseAt};
 ghost use Rattle.develop_session.specs.Develop.{developed, out_bytes};
@@ -13,7 +12,7 @@ ghost use Rattle.develop_session.specs.Words.{Command};
 
 use crate::command::Names;
 use crate::devices::{put_file, say_line, tell};
-use crate::inputs::{SOURCE_FRONT, read_built_script, read_source};
+use crate::inputs::{SOURCE_FRONT, read_script, read_source};
 use crate::status::Status;
 use edit_steps::Script;
 use modules_raw::Source;
@@ -29,7 +28,6 @@ fn develop_bytes<R: Threads + Sync>(
     script: &Script,
     source: &Source,
 ) -> Result<(u32, u32, Vec<u8>), AllocError>
-    requires { IsBuiltScript script.now }
     ensures wide { IfOk result (λ made. made.0 ≡ (developed script.now (picture_of source.now)).w) }
     ensures high { IfOk result (λ made. made.1 ≡ (developed script.now (picture_of source.now)).h) }
     ensures bytes { IfOk result (λ made. made.2.items ≡ out_bytes script.now (picture_of source.now)) }
@@ -48,7 +46,7 @@ fn develop<R: Threads + Sync, S: Shelf>(
     ensures ok { IfOk result (λ sides. Develops (command names.entry) (S.files shelf.old) (S.files shelf.new) sides.0 sides.1) }
     ensures cause { IfErr result (Refuses (command names.entry) (S.files shelf.old) (S.files shelf.new) (RoseAt (S.read_faults shelf.old) (S.read_faults shelf.new)) (RoseAt (S.put_faults shelf.old) (S.put_faults shelf.new))) }
 {
-    let script = read_built_script(alloc, shelf, names.script)?;
+    let script = read_script(alloc, shelf, names.script)?;
     let cfa = script.settings().cfa;
     let plane = read_source(alloc, shelf, names.source, SOURCE_FRONT, cfa)?;
     let (w, h, bytes) = develop_bytes(rt, alloc, &script, &Source::of(plane))?;

@@ -3,14 +3,12 @@ ghost use Rattle.std.specs.Prelude.{◌≡◌, ℕ, ◌≤◌, List, length, IfO
 ghost use Rattle.px.specs.Cut.{IsWhole, picture_of};
 ghost use Rattle.outside.specs.Faults.{Rose, NoneFalls};
 ghost use Rattle.develop_session.specs.Files.{HasScript, HasSource, HasEvents};
-ghost use Rattle.dev_core.specs.Built.{IsBuiltScript};
 ghost use Rattle.develop_session.specs.Replay.{IsServed, IsSmall};
-ghost use Rattle.develop_session.specs.Failures.{ReadFails, ScriptFails, SourceFails, SmallSourceFails, EventsFail};
+ghost use Rattle.develop_session.specs.Failures.{ScriptFails, ServedScriptFails, SourceFails, SmallSourceFails, EventsFail};
 
 use crate::devices::read_file;
 use crate::served::is_served;
 use crate::status::{Input, Status};
-use dev_core::is_built;
 use edit_steps::{Script, ScriptEnd};
 use json_form::LONGEST;
 use outside::Shelf;
@@ -25,10 +23,14 @@ const TEXT_FRONT: usize = LONGEST + 1;
 /// How many bytes of a source are looked at.
 pub(crate) const SOURCE_FRONT: usize = 268_435_456;
 
-// The script under a name.
-fn read_script<S: Shelf>(alloc: Global, shelf: &mut S, name: &str) -> Result<Script, Status>
+/// The script under a name.
+pub(crate) fn read_script<S: Shelf>(
+    alloc: Global,
+    shelf: &mut S,
+    name: &str,
+) -> Result<Script, Status>
     ensures script { IfOk result (λ s. IfSome (S.files shelf.old) (λ fs. HasScript name.now fs s)) }
-    ensures cause { IfErr result (ReadFails name.now (S.files shelf.old) (Rose (S.read_faults shelf.old name.now) (S.read_faults shelf.new name.now))) }
+    ensures cause { IfErr result (ScriptFails name.now (S.files shelf.old) (Rose (S.read_faults shelf.old name.now) (S.read_faults shelf.new name.now))) }
     ensures unchanged { S.files shelf.new ≡ S.files shelf.old }
     ensures reads { NoneFalls (S.read_faults shelf.old) (S.read_faults shelf.new) }
     ensures puts { NoneFalls (S.put_faults shelf.old) (S.put_faults shelf.new) }
@@ -44,28 +46,6 @@ fn read_script<S: Shelf>(alloc: Global, shelf: &mut S, name: &str) -> Result<Scr
     }
 }
 
-/// The script under a name, where a run can make each picture of it.
-pub(crate) fn read_built_script<S: Shelf>(
-    alloc: Global,
-    shelf: &mut S,
-    name: &str,
-) -> Result<Script, Status>
-    ensures script { IfOk result (λ s. IfSome (S.files shelf.old) (λ fs. HasScript name.now fs s)) }
-    ensures built { IfOk result IsBuiltScript }
-    ensures cause { IfErr result (ScriptFails IsBuiltScript name.now (S.files shelf.old) (Rose (S.read_faults shelf.old name.now) (S.read_faults shelf.new name.now))) }
-    ensures unchanged { S.files shelf.new ≡ S.files shelf.old }
-    ensures reads { NoneFalls (S.read_faults shelf.old) (S.read_faults shelf.new) }
-    ensures puts { NoneFalls (S.put_faults shelf.old) (S.put_faults shelf.new) }
-{
-    let script = read_script(alloc, shelf, name)?;
-    if !is_built(&script) {
-        return Err(Status::NotYet {
-            what: Input::Script,
-        });
-    }
-    Ok(script)
-}
-
 /// The script under a name, where a replay serves it.
 pub(crate) fn read_served_script<S: Shelf>(
     alloc: Global,
@@ -74,7 +54,7 @@ pub(crate) fn read_served_script<S: Shelf>(
 ) -> Result<Script, Status>
     ensures script { IfOk result (λ s. IfSome (S.files shelf.old) (λ fs. HasScript name.now fs s)) }
     ensures served { IfOk result IsServed }
-    ensures cause { IfErr result (ScriptFails IsServed name.now (S.files shelf.old) (Rose (S.read_faults shelf.old name.now) (S.read_faults shelf.new name.now))) }
+    ensures cause { IfErr result (ServedScriptFails name.now (S.files shelf.old) (Rose (S.read_faults shelf.old name.now) (S.read_faults shelf.new name.now))) }
     ensures unchanged { S.files shelf.new ≡ S.files shelf.old }
     ensures reads { NoneFalls (S.read_faults shelf.old) (S.read_faults shelf.new) }
     ensures puts { NoneFalls (S.put_faults shelf.old) (S.put_faults shelf.new) }

@@ -3,7 +3,6 @@ ghost use Rattle.std.specs.Prelude.{◌≡◌, ◌↔◌, ◌≤◌, length, IfO
 ghost use Rattle.std.specs.Arc.{arc_value};
 ghost use Rattle.px.specs.Cut.{IsWhole};
 ghost use Rattle.outside.specs.Faults.{Rose, NoneFalls};
-ghost use Rattle.dev_core.specs.Built.{IsBuiltScript};
 ghost use Rattle.dev_core.specs.Desk.{IsComplete};
 ghost use Rattle.dev_core.specs.Lines.{lines};
 ghost use Rattle.stepped.specs.Outcome.{AllAllowed, start_of};
@@ -34,7 +33,6 @@ use stepped::{Event, EventReason, Outcome, StepEnd, stepped};
 
 fn subject_of(alloc: Global, script: Script, plane: Plane) -> Result<Arc<Subject>, AllocError>
     requires whole { IsWhole plane }
-    requires built { IsBuiltScript script }
     ensures { IfOk result (λ s. arc_value s ≡ record { source = plane; script = script }) }
 {
     let source = Arc::new(alloc, Source::of(plane)).map_err(AllocError::from)?;

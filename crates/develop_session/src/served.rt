@@ -4,7 +4,6 @@ ghost use Rattle.std.specs.List.{All};
 ghost use Rattle.edit_steps.specs.Settings.{start_view};
 ghost use Rattle.develop_session.specs.Replay.{IsServedStep, IsServed};
 
-use dev_core::is_built;
 use edit_steps::{Script, Settings, Step};
 use px::View;
 
@@ -35,12 +34,12 @@ fn is_default(view: View) -> bool
     view == Settings::start().view
 }
 
-/// Whether a replay serves the script so far: a run can make each picture of it, each step is an edit, an
-/// undo or a redo, the view is the default, and there is no second window.
+/// Whether a replay serves the script so far: each step is an edit, an undo or a redo, the view is the
+/// default, and there is no second window.
 pub(crate) fn is_served(script: &Script) -> bool
     ensures { IsTrue result ↔ IsServed script.now }
 {
-    if !is_built(script) || !are_served_steps(script.steps()) {
+    if !are_served_steps(script.steps()) {
         return false;
     }
     if script.settings().second.is_some() {

@@ -8,7 +8,7 @@ use Rattle.std.proofs.lemmas.List.Elements.{All-same, All-weaker, All-cons, All-
 use Rattle.std.proofs.lemmas.Option.{slice_get-get_or, slice_get_within, get_or_from_slice_get}
 use Rattle.params.specs.Rules.{first_fault}
 use Rattle.module_order.specs.declared.slots.Slot.{Slot}
-use Rattle.module_order.specs.Slot.{slot, is_slot}
+use Rattle.module_order.specs.Slot.{is_slot}
 use Rattle.history.specs.declared.items.Item.{Item}
 use Rattle.history.specs.Item.{is_of, top_item}
 use Rattle.history.specs.Stack.{Stack}
@@ -16,8 +16,8 @@ use Rattle.history.specs.History.{IsHistory}
 use Rattle.history.specs.After.{live_items}
 use Rattle.history.proofs.HistoryLemmas.{Stands, check-Stands}
 use Rattle.pipe_nodes.specs.declared.active.Active.{Active}
-use Rattle.pipe_nodes.specs.Active.{IsFit, IsPlain}
-use Rattle.pipe_nodes.specs.Actives.{demosaic, IsPlainItem, last_of, active_of, active_at, actives_of}
+use Rattle.pipe_nodes.specs.Active.{IsFit}
+use Rattle.pipe_nodes.specs.Actives.{demosaic, demosaic_slot, last_of, active_of, active_at, actives_of}
 
 top_item-push : (items : List Item) (item : Item) → top_item (items ++ item ∷ []) ≡ Some item
 top_item-push items item =
@@ -54,7 +54,7 @@ all_behind P (Some item) h = h
 
 all_at : (P : Active → Type 0) (items : List Item) (s : Slot) → P demosaic → All (λ item. IfSome (active_of item) P) items → IfSome (active_at items s) P
 all_at P items s own all =
-    elim (is_slot (slot 2 0) s) as (λ b. IfSome (cond b (Some demosaic) (option_and_then active_of (last_of s items))) P)
+    elim (is_slot demosaic_slot s) as (λ b. IfSome (cond b (Some demosaic) (option_and_then active_of (last_of s items))) P)
     [ true ↦ own | false ↦ all_behind P (last_of s items) (All-last_of (λ item. IfSome (active_of item) P) s items all) ]
 
 All-cons_option : (P : Active → Type 0) (o : Option Active) (rest : List Active) → IfSome o P → All P rest → All P (cons_option o rest)
@@ -82,10 +82,6 @@ fit_demosaic = record { params = refl; blend = refl }
 pub actives-fit : (h : Stack) → IsHistory h → All IsFit (actives_of h)
 actives-fit h history = actives-all IsFit h fit_demosaic (All-weaker (Stands h.order) (λ item. IfSome (active_of item) IsFit)
     (λ item stands. let checks = check-Stands h.order item stands in enabled_all IsFit item (record { params = checks.0; blend = checks.1 })) h.items history.items)
-
--- where no item has a blend, nothing that is active has one
-pub actives-plain : (h : Stack) → All IsPlainItem h.items → All IsPlain (actives_of h)
-actives-plain h all = actives-all IsPlain h refl (All-weaker IsPlainItem (λ item. IfSome (active_of item) IsPlain) (λ item plain. enabled_all IsPlain item plain) h.items all)
 
 one_gathered : (o : Option Active) → cons_option o [] ≡ option_to_list o
 one_gathered None = refl

@@ -1,5 +1,5 @@
 -- Lemmas on single modules at work.
-use Rattle.std.proofs.Common.{◌≡◌, ℕ, ◌+◌, ◌-◌, ◌/◌, ◌%◌, ◌^◌, ◌≤◌, ◌↔◌, min, refl, sym, ap, ◌∙◌, subst, arith, Option, Some, None, Ok}
+use Rattle.std.proofs.Common.{◌≡◌, ℕ, ◌+◌, ◌/◌, ◌%◌, ◌^◌, ◌≤◌, ◌↔◌, min, refl, sym, ap, ◌∙◌, subst, arith, Option, Some, None, Ok}
 use Rattle.std.specs.Prelude.{⊤, Result, IsOk, IfSome, IfNone}
 use Rattle.params.specs.declared.fault.ParamFault.{ParamFault}
 use Rattle.params.specs.declared.settings.Params.{Params}
@@ -17,8 +17,8 @@ use Rattle.pipe_nodes.specs.Whole.{means}
 use Rattle.pipe_nodes.proofs.MeansLemmas.{demosaiced-rgb}
 
 -- settings without a fault are within their ranges
-pub within_as : (p q : Params) (r : Result ⊤ ParamFault) → p ≡ q → check_of p ≡ Ok tt → r ≡ check_of p → (IsOk r ↔ IsWithin p) → IsWithin q
-within_as p q r e fit is tells = subst IsWithin e (tells.0 (subst IsOk (sym (is ∙ fit)) refl))
+pub within_of : (p : Params) (r : Result ⊤ ParamFault) → check_of p ≡ Ok tt → r ≡ check_of p → (IsOk r ↔ IsWithin p) → IsWithin p
+within_of p r fit is tells = tells.0 (subst IsOk (sym (is ∙ fit)) refl)
 
 -- a plane was made by the kernel of a module
 pub applied : (p q : Params) (level : ℕ) (input : Cut) (region : Area) (o : Cut) → p ≡ q → o.area ≡ region → ((i : Picture) → IsCutOf i input → IsCutOf (means q level i) o) → IsApplied p level input region (Some o)

@@ -1,9 +1,9 @@
 -- Lemmas on the kinds of pictures along a run.
 use Rattle.std.proofs.Common.{◌≡◌, ℕ, ◌-◌, ◌<◌, ◌≤◌, true, false, cond, List, [], ◌∷◌, ◌++◌, length, take, drop, refl, sym, ap, ◌∙◌, subst, arith, Option, Some, None}
-use Rattle.std.specs.Prelude.{⊤, slice_get, option_and_then, IfSome}
+use Rattle.std.specs.Prelude.{option_and_then, IfSome}
 use Rattle.std.specs.List.{All, filter, filter_map, cons_option}
 use Rattle.std.proofs.lemmas.List.{take-append-drop, take_all}
-use Rattle.std.proofs.lemmas.List.Elements.{filter_passes, filter_map-append}
+use Rattle.std.proofs.lemmas.List.Elements.{filter_passes}
 use Rattle.std.proofs.lemmas.Option.{slice_get_within, get_or_from_slice_get}
 use Rattle.px.specs.declared.kind.PlaneKind.{PlaneKind}
 use Rattle.px.specs.declared.kind.PlaneKind.TheVariants.{Rgb}
@@ -12,7 +12,7 @@ use Rattle.params.specs.Ranges.{module_of}
 use Rattle.params.specs.declared.settings.Params.{Params}
 use Rattle.params.specs.declared.settings.Params.TheVariants as params
 use Rattle.module_order.specs.declared.slots.Slot.{Slot}
-use Rattle.module_order.specs.Slot.{slot, is_slot, fixed_slots}
+use Rattle.module_order.specs.Slot.{slot, fixed_slots}
 use Rattle.module_order.specs.Order.{IsOrder}
 use Rattle.module_order.proofs.SlotLemmas.{slot_is}
 use Rattle.history.specs.declared.items.Item.{Item}
@@ -20,7 +20,7 @@ use Rattle.history.specs.Item.{slot_of, is_of, top_item}
 use Rattle.history.specs.Stack.{Stack}
 use Rattle.history.specs.After.{live_items}
 use Rattle.pipe_nodes.specs.declared.active.Active.{Active}
-use Rattle.pipe_nodes.specs.Actives.{demosaic, last_of, active_of, active_at, actives_of}
+use Rattle.pipe_nodes.specs.Actives.{last_of, active_of, active_at, actives_of}
 use Rattle.pipe_nodes.specs.Kinds.{Takes, kind_after, kind_behind, AllTake, IsRun}
 
 -- every module takes an RGB picture, and makes one of it

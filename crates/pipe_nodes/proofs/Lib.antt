@@ -2,7 +2,9 @@ pub mod ActiveLemmas
 pub mod ActivesLemmas
 pub mod KindLemmas
 pub mod MeansLemmas
+pub mod BlendLemmas
 pub mod RunLemmas
+pub mod MakeLemmas
 pub mod PrefixLemmas
 pub mod StageLemmas
 pub mod SameLemmas

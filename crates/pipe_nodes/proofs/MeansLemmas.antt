@@ -1,5 +1,5 @@
 -- Lemmas on what modules mean: the kinds and the sides of their outputs.
-use Rattle.std.proofs.Common.{◌≡◌, ℕ, refl, sym, ap, ◌∙◌, subst}
+use Rattle.std.proofs.Common.{◌≡◌, ℕ, refl, ap}
 use Rattle.params.specs.declared.settings.Params.{Params}
 use Rattle.params.specs.declared.settings.Params.TheVariants as params
 use Rattle.px.specs.declared.kind.PlaneKind.{PlaneKind}

@@ -1,5 +1,5 @@
 -- What one module instance does in a pipe.
-use Rattle.std.specs.Prelude.{◌≡◌, Ok, None}
+use Rattle.std.specs.Prelude.{◌≡◌, Ok}
 use Rattle.params.specs.Ranges.{module_of, check_of, check_blend_of}
 use Rattle.pipe_nodes.specs.declared.active.Active.{Active}
 
@@ -7,7 +7,3 @@ use Rattle.pipe_nodes.specs.declared.active.Active.{Active}
 pub record IsFit (a : Active) : Type 0 where
   pub params : check_of a.params ≡ Ok tt
   pub blend : check_blend_of (module_of a.params) a.blend ≡ Ok tt
-
--- a run can apply it, so far: it has no blend
-abbrev pub IsPlain : Active → Type 0
-IsPlain a = a.blend ≡ None

@@ -1,8 +1,9 @@
 -- What is active in a history.
-use Rattle.std.specs.Prelude.{◌≡◌, if◌then◌else◌, List, Option, Some, None, option_and_then}
+use Rattle.std.specs.Prelude.{if◌then◌else◌, List, Option, Some, None, option_and_then}
 use Rattle.std.specs.List.{filter, filter_map}
 use Rattle.params.specs.declared.settings.Params.TheVariants.{Demosaic}
-use Rattle.params.specs.Ranges.{module_of}
+use Rattle.params.specs.declared.modules.Module.TheVariants as modules
+use Rattle.params.specs.Names.{number_of}
 use Rattle.module_order.specs.declared.slots.Slot.{Slot}
 use Rattle.module_order.specs.Slot.{slot, is_slot}
 use Rattle.history.specs.declared.items.Item.{Item}
@@ -23,13 +24,13 @@ last_of s items = top_item (filter (is_of s) items)
 abbrev pub active_of : Item → Option Active
 active_of item = if item.enabled then Some (record { instance = item.instance; params = item.params; blend = item.blend }) else None
 
--- a run can apply the item's values, so far: it has no blend
-abbrev pub IsPlainItem : Item → Type 0
-IsPlainItem item = item.blend ≡ None
+-- demosaic has one instance
+abbrev pub demosaic_slot : Slot
+demosaic_slot = slot (number_of modules.Demosaic) 0
 
 -- what is active of the instance, by the items that count: an instance without an item is disabled, and demosaic is always active
 abbrev pub active_at : List Item → Slot → Option Active
-active_at items s = if is_slot (slot 2 0) s then Some demosaic else option_and_then active_of (last_of s items)
+active_at items s = if is_slot demosaic_slot s then Some demosaic else option_and_then active_of (last_of s items)
 
 -- what is active in a history, along the order of its instances
 abbrev pub actives_of : Stack → List Active

@@ -1,9 +1,13 @@
 -- What a list of module instances makes of a source: pictures as a whole, without regions and without caches.
-use Rattle.std.specs.Prelude.{ℕ, zero, suc, List, [], ◌∷◌, ◌++◌, Option, Some, None}
+use Rattle.std.specs.Prelude.{ℕ, zero, suc, List, [], ◌∷◌, ◌++◌, map, Option, Some, None}
 use Rattle.params.specs.declared.blending.Blend.{Blend}
+use Rattle.params.specs.declared.blending.Shape.{Shape}
 use Rattle.params.specs.declared.settings.Params.{Params}
 use Rattle.params.specs.declared.settings.Params.TheVariants as params
 use Rattle.px.specs.Picture.{Picture}
+use Rattle.geometry.specs.Sides.{place_behind}
+use Rattle.masks.specs.Coverage.{coverage_at}
+use Rattle.blend.specs.Blending.{blended_picture}
 use Rattle.modules_raw.specs.Balancing.{balanced_picture}
 use Rattle.modules_raw.specs.Demosaic.{demosaiced_picture}
 use Rattle.modules_raw.specs.Levels.{levelled}
@@ -35,11 +39,26 @@ means (params.ToneCurve p) level i = curved_picture p i
 means (params.BoxBlur p) level i = blurred_picture (radius_of p.radius level) i
 means (params.Sharpen p) level i = sharpened_picture (radius_of p.radius level) p.amount i
 
--- the output m of a module mixed with its input i. A mask is placed in the source, so that it needs the source's sides, the level,
--- and the module instances before. No mix is built yet
+-- columns and rows
+abbrev pub sides_of : Picture → ℕ × ℕ
+sides_of p = (p.w, p.h)
+
+abbrev pub settings_of : List Active → List Params
+settings_of = map (λ (a : Active). a.params)
+
+-- the pixel of a level of the source from which a pixel behind the instances comes
+abbrev pub place_in : Picture → ℕ → List Active → ℕ → ℕ → ℕ × ℕ
+place_in source level before x y = place_behind (settings_of before) (sides_of (input_of source level)) (x, y)
+
+-- how far a pixel behind the instances is covered: a mask stands at its place in the source, and without one each is covered whole
+abbrev pub covered_at : Picture → ℕ → List Active → Option Shape → ℕ → ℕ → ℕ
+covered_at source level before None x y = 65536
+covered_at source level before (Some shape) x y = coverage_at shape source.w source.h level (place_in source level before x y).0 (place_in source level before x y).1
+
+-- the output m of a module, which stands behind the instances `before`, mixed with its input i
 abbrev pub blended : Picture → ℕ → List Active → Option Blend → Picture → Picture → Picture
 blended source level before None i m = m
-blended source level before (Some blend) i m = m
+blended source level before (Some b) i m = blended_picture b (covered_at source level before b.mask) i m
 
 -- the picture i, behind these module instances, after one more
 abbrev pub after_one : Picture → ℕ → List Active → Active → Picture → Picture

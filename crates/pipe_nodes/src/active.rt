@@ -1,5 +1,5 @@
 ghost use Rattle.std.specs.Prelude.{◌≡◌, ◌↔◌, IsTrue, IfOk};
-ghost use Rattle.pipe_nodes.specs.Active.{IsFit, IsPlain};
+ghost use Rattle.pipe_nodes.specs.Active.{IsFit};
 
 use params::{Blend, Params};
 use std::alloc::{AllocError, Global};
@@ -33,12 +33,5 @@ impl Active {
         let params = params::check(&self.params);
         let blend = params::check_blend(self.params.module(), self.blend.as_ref());
         params.is_ok() && blend.is_ok()
-    }
-
-    /// Whether a run can apply it, so far: it has no blend.
-    pub fn is_plain(&self) -> bool
-        ensures { IsTrue result ↔ IsPlain self.now }
-    {
-        self.blend.is_none()
     }
 }

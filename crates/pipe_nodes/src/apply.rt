@@ -8,10 +8,8 @@ ghost use Rattle.px.specs.Cut.{IsCutOf};
 ghost use Rattle.px.specs.Picture.{Picture};
 ghost use Rattle.modules_colour.specs.Curving.{curved_picture};
 ghost use Rattle.modules_raw.specs.Demosaic.{demosaiced_picture};
-ghost use Rattle.pipe_nodes.specs.Active.{IsFit, IsPlain};
 ghost use Rattle.pipe_nodes.specs.Applied.{CanApply, IsApplied};
 
-use crate::active::Active;
 use modules_colour::CurveTable;
 use params::{Params, ToneCurve};
 use px::{Plane, PlaneKind, Region};
@@ -58,24 +56,22 @@ fn demosaic<R: Threads + Sync>(
     }
 }
 
-// A region of what the module instance makes of its input, a picture of that level, or none where it
-// leaves the input as it is.
+// A region of what a module by itself makes of its input, a picture of that level, or none where it leaves
+// the input as it is.
 pub(crate) fn apply<R: Threads + Sync>(
     rt: &R,
     alloc: Global,
-    active: &Active,
+    params: &Params,
     level: u8,
     input: &Plane,
     region: Region,
 ) -> Result<Option<Plane>, AllocError>
-    requires fit { IsFit active.now }
-    requires plain { IsPlain active.now }
+    requires within { IsWithin params.now }
     requires level { level ≤ 8 }
-    requires can { CanApply active.now.params input.now region }
-    ensures { IfOk result (IsApplied active.now.params level input.now region) }
+    requires can { CanApply params.now input.now region }
+    ensures { IfOk result (IsApplied params.now level input.now region) }
 {
-    prove!(params::check(&active.params).is_ok());
-    match &active.params {
+    match params {
         Params::RawPrepare(raw) => {
             let made = modules_raw::raw_prepare(rt, alloc, raw, input, region)?;
             Ok(Some(made))

@@ -3,7 +3,7 @@ ghost use Rattle.std.specs.Prelude.{◌≡◌, ◌≤◌, length};
 ghost use Rattle.std.specs.Option.{option_to_list};
 ghost use Rattle.pipe_nodes.specs.Actives.{active_of, active_at, actives_of};
 
-use crate::gather::{DEMOSAIC, last_of};
+use crate::gather::{is_demosaic, last_of};
 use history::{History, Item};
 use module_order::Slot;
 
@@ -12,7 +12,7 @@ fn active_in(items: &[Item], slot: Slot) -> u32
     ensures count { result ≡ length (option_to_list (active_at items.now slot)) }
     ensures few { result ≤ 1 }
 {
-    if slot == DEMOSAIC {
+    if is_demosaic(slot) {
         return 1;
     }
     match last_of(items, slot) {

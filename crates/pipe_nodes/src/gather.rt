@@ -1,22 +1,28 @@
-ghost use Rattle.std.specs.Prelude.{◌≡◌, ◌↔◌, IsTrue, ◌<◌, ◌≤◌, ◌+◌, ◌++◌, IfOk, vec_len, vec_capacity};
+ghost use Rattle.std.specs.Prelude.{◌≡◌, ◌<◌, ◌≤◌, ◌+◌, ◌++◌, IfOk, vec_len, vec_capacity};
 ghost use Rattle.std.specs.List.{All};
 ghost use Rattle.std.specs.Option.{option_copied, option_to_list};
 ghost use Rattle.px.specs.declared.kind.PlaneKind.{PlaneKind};
 ghost use Rattle.pipe_nodes.specs.Active.{IsFit};
-ghost use Rattle.pipe_nodes.specs.Actives.{IsPlainItem, last_of, active_of, active_at, actives_of};
+ghost use Rattle.module_order.specs.Slot.{is_slot};
+ghost use Rattle.pipe_nodes.specs.Actives.{demosaic_slot, last_of, active_of, active_at, actives_of};
 ghost use Rattle.pipe_nodes.specs.Kinds.{IsRun};
 
 use crate::active::Active;
 use history::{History, Item};
 use module_order::Slot;
-use params::Params;
+use params::{Module, Params};
 use std::alloc::{AllocError, Global};
 
-/// The slot of demosaic, which has one instance.
-pub(crate) const DEMOSAIC: Slot = Slot {
-    module: 2,
-    instance: 0,
-};
+// Whether it is the slot of demosaic, which has one instance.
+pub(crate) fn is_demosaic(slot: Slot) -> bool
+    ensures { result ≡ is_slot demosaic_slot slot }
+{
+    let demosaic = Slot {
+        module: Module::Demosaic.number(),
+        instance: 0,
+    };
+    demosaic == slot
+}
 
 // The item that was set last of those of the instance, if there is one.
 pub(crate) fn last_of(items: &[Item], slot: Slot) -> Option<&Item>
@@ -49,7 +55,7 @@ fn active_of(alloc: Global, item: &Item) -> Result<Option<Active>, AllocError>
 fn active_at(alloc: Global, items: &[Item], slot: Slot) -> Result<Option<Active>, AllocError>
     ensures { IfOk result (λ active. active ≡ active_at items.now slot) }
 {
-    if slot == DEMOSAIC {
+    if is_demosaic(slot) {
         return Ok(Some(Active {
             instance: 0,
             params: Params::Demosaic,
@@ -72,13 +78,6 @@ fn keep<T: Drop>(list: &mut Vec<T>, one: Option<T>)
     if let Some(one) = one {
         list.push_reserved(one);
     }
-}
-
-/// Whether a run can apply the item's values, so far: it has no blend.
-pub fn is_plain_item(item: &Item) -> bool
-    ensures { IsTrue result ↔ IsPlainItem item.now }
-{
-    item.blend.is_none()
 }
 
 /// What is active in a history, along the order of its instances: of each instance the last item among

@@ -4,8 +4,10 @@
 
 mod active;
 mod apply;
+mod blending;
 mod counting;
 mod gather;
+mod making;
 mod piece;
 mod prefix;
 mod render;
@@ -13,10 +15,11 @@ mod run;
 mod show;
 mod staged;
 mod steps;
+mod tracing;
 
 pub use active::Active;
 pub use counting::active_count;
-pub use gather::{actives, is_plain_item};
+pub use gather::actives;
 pub use piece::{Piece, commit};
 pub use prefix::Prefix;
 pub use run::{shown_bytes, uncached};

@@ -1,44 +1,47 @@
 //! The plain run: whole pictures, without regions and without caches.
-ghost use Rattle.std.specs.Prelude.{◌≡◌, ◌≤◌, IfOk, unwrap_or};
+ghost use Rattle.std.specs.Prelude.{◌≡◌, ◌≤◌, List, IfOk, unwrap_or};
 ghost use Rattle.std.specs.List.{All};
 ghost use Rattle.px.specs.declared.kind.PlaneKind.TheVariants.{Rgb};
 ghost use Rattle.px.specs.Cut.{IsCutOf, IsWhole};
 ghost use Rattle.px.specs.Picture.{Picture};
 ghost use Rattle.pnm.specs.Pnm.{written};
 ghost use Rattle.pipe_nodes.specs.declared.show.Window.TheVariants.{Whole};
-ghost use Rattle.pipe_nodes.specs.Active.{IsFit, IsPlain};
+ghost use Rattle.pipe_nodes.specs.declared.active.Active.{Active as AnyActive};
+ghost use Rattle.pipe_nodes.specs.Active.{IsFit};
+ghost use Rattle.pipe_nodes.specs.Applied.{CanTrace, HasShape, IsTracing};
 ghost use Rattle.pipe_nodes.specs.Actives.{actives_of};
-ghost use Rattle.pipe_nodes.specs.Kinds.{Takes, AllTake, kind_after, kind_behind};
-ghost use Rattle.pipe_nodes.specs.Whole.{input_of, means, whole};
+ghost use Rattle.pipe_nodes.specs.Kinds.{Takes, AllTake, kind_behind};
+ghost use Rattle.pipe_nodes.specs.Whole.{after_one, input_of, whole};
 
 use crate::active::Active;
-use crate::apply::apply;
 use crate::gather::actives;
+use crate::making::make;
 use crate::show::{Show, Window};
-use geometry::{roi_back, roi_out};
+use crate::tracing::{Tracing, tracing_of};
+use geometry::{Geometry, roi_back, roi_out};
 use history::History;
 use modules_raw::{Source, level};
 use px::{Depth, Plane, Region};
 use std::alloc::{AllocError, Global};
 use std::thread::Threads;
 
-// The output of one module instance over a whole picture of that level, where it isn't that picture
-// itself.
+// What one module instance makes of a whole picture of that level, where it isn't that picture itself.
 fn step<R: Threads + Sync>(
     rt: &R,
     alloc: Global,
     active: &Active,
     level: u8,
+    tracing: &Tracing,
     input: &Plane,
 ) -> Result<Option<Plane>, AllocError>
     requires fit { IsFit active.now }
-    requires plain { IsPlain active.now }
     requires level { level ≤ 8 }
+    requires traces { CanTrace tracing.now (input.now.w, input.now.h) }
     requires takes { Takes active.now.params input.now.kind }
     requires whole { IsWhole input.now }
     ensures whole { IfOk result (λ made. IsWhole (unwrap_or made input.now)) }
-    ensures kind { IfOk result (λ made. (unwrap_or made input.now).kind ≡ kind_after input.now.kind active.now.params) }
-    ensures cut { IfOk result (λ made. (q : Picture) → IsCutOf q input.now → IsCutOf (means active.now.params level q) (unwrap_or made input.now)) }
+    ensures shape { IfOk result (λ made. HasShape active.now.params input.now (unwrap_or made input.now)) }
+    ensures cut { IfOk result (λ made. (source i : Picture) (before : List AnyActive) → IsTracing source level before (input.now.w, input.now.h) tracing.now → IsCutOf i input.now → IsCutOf (after_one source level before active.now i) (unwrap_or made input.now)) }
 {
     prove!(params::check(&active.params).is_ok());
     let (w, h) = input.sides();
@@ -49,7 +52,7 @@ fn step<R: Threads + Sync>(
             .region()
             .covers(roi_back(&active.params, w, h, region))
     );
-    apply(rt, alloc, active, level, input, region)
+    make(rt, alloc, active, level, tracing, input, region)
 }
 
 // The plane that was made, or else the one before.
@@ -62,11 +65,12 @@ fn standing<'a>(made: &'a Option<Plane>, before: &'a Plane) -> &'a Plane
     }
 }
 
-// The plane that the module instances make of a whole picture of that level, where it isn't that plane
-// itself.
+// The plane that the module instances make of a whole picture of that level of the source, where it isn't
+// that plane itself.
 fn run_over<R: Threads + Sync>(
     rt: &R,
     alloc: Global,
+    source: &Source,
     level: u8,
     input: &Plane,
     actives: &[Active],
@@ -74,16 +78,20 @@ fn run_over<R: Threads + Sync>(
     requires level { level ≤ 8 }
     requires whole { IsWhole input.now }
     requires fit { All IsFit actives.now }
-    requires plain { All IsPlain actives.now }
     requires takes { AllTake input.now.kind actives.now }
     ensures whole { IfOk result (λ made. IsWhole (unwrap_or made input.now)) }
     ensures kind { IfOk result (λ made. (unwrap_or made input.now).kind ≡ kind_behind input.now.kind actives.now) }
-    ensures cut { IfOk result (λ made. (q : Picture) → IsCutOf (input_of q level) input.now → IsCutOf (whole q level actives.now) (unwrap_or made input.now)) }
+    ensures cut { IfOk result (λ made. (q : Picture) → IsCutOf q source.now → IsCutOf (input_of q level) input.now → IsCutOf (whole q level actives.now) (unwrap_or made input.now)) }
 {
+    let (columns, rows) = input.sides();
+    let mut geometry = Geometry::start(columns, rows, level);
     let mut made = None;
     for active in actives {
-        let next = step(rt, alloc, active, level, standing(&made, input))?;
+        prove!(params::check(&active.params).is_ok());
+        let tracing = tracing_of(source, &geometry);
+        let next = step(rt, alloc, active, level, &tracing, standing(&made, input))?;
         made = next.or(made);
+        geometry.push(&active.params);
     }
     Ok(made)
 }
@@ -120,7 +128,7 @@ fn owned(alloc: Global, made: Option<Plane>, before: &Plane) -> Result<Plane, Al
 }
 
 /// The picture that what is active in a history makes of a level of a source, as a whole RGB plane. So
-/// far a run shows the whole window, and nothing that is active has a blend.
+/// far a run shows the whole window.
 pub fn uncached<R: Threads + Sync>(
     rt: &R,
     alloc: Global,
@@ -130,7 +138,6 @@ pub fn uncached<R: Threads + Sync>(
 ) -> Result<Plane, AllocError>
     requires level { show.now.level ≤ 8 }
     requires window { show.now.window ≡ Whole }
-    requires plain { All IsPlain (actives_of history.now) }
     ensures whole { IfOk result IsWhole }
     ensures rgb { IfOk result (λ p. p.kind ≡ Rgb) }
     ensures cut { IfOk result (λ p. (q : Picture) → IsCutOf q source.now → IsCutOf (whole q show.now.level (actives_of history.now)) p) }
@@ -139,7 +146,14 @@ pub fn uncached<R: Threads + Sync>(
     let actives = actives(alloc, history)?;
     let plane = source.plane();
     let input = level_of(rt, alloc, source, show.level)?;
-    let made = run_over(rt, alloc, show.level, standing(&input, plane), &actives)?;
+    let made = run_over(
+        rt,
+        alloc,
+        source,
+        show.level,
+        standing(&input, plane),
+        &actives,
+    )?;
     owned(alloc, made.or(input), plane)
 }
 
@@ -152,13 +166,12 @@ pub fn shown_bytes<R: Threads + Sync>(
     history: &History,
     depth: Depth,
 ) -> Result<(u32, u32, Vec<u8>), AllocError>
-    requires plain { All IsPlain (actives_of history.now) }
     ensures wide { IfOk result (λ shown. (q : Picture) → IsCutOf q source.now → shown.0 ≡ (whole q 0 (actives_of history.now)).w) }
     ensures high { IfOk result (λ shown. (q : Picture) → IsCutOf q source.now → shown.1 ≡ (whole q 0 (actives_of history.now)).h) }
     ensures bytes { IfOk result (λ shown. (q : Picture) → IsCutOf q source.now → shown.2.items ≡ written (whole q 0 (actives_of history.now)) depth) }
 {
     let actives = actives(alloc, history)?;
-    let made = run_over(rt, alloc, 0, source.plane(), &actives)?;
+    let made = run_over(rt, alloc, source, 0, source.plane(), &actives)?;
     let plane = standing(&made, source.plane());
     let (w, h) = plane.sides();
     Ok((w, h, pnm::write(alloc, plane, depth)?))

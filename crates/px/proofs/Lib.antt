@@ -9,3 +9,4 @@ pub mod MadeLemmas
 pub mod SumLemmas
 pub mod PixelLemmas
 pub mod MeanLemmas
+pub mod CoverLemmas

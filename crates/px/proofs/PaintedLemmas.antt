@@ -16,7 +16,7 @@ channel_of_pixel (Mosaic cfa) f zero h = refl
 channel_of_pixel (Mosaic cfa) f (suc c) h = absurd (omega arith)
 channel_of_pixel Rgb f c h = three (λ n. slice_index (f 0 ∷ f 1 ∷ f 2 ∷ []) n ≡ f n) refl refl refl c h
 
-moved_given : (post : ℕ → ℕ → List ℕ → Type 0) (size : ℕ) (f : ℕ → ℕ) (x x' y y' : ℕ) → x ≡ x' → y ≡ y' → IsGiven (post x y) size f → IsGiven (post x' y') size f
+pub moved_given : (post : ℕ → ℕ → List ℕ → Type 0) (size : ℕ) (f : ℕ → ℕ) (x x' y y' : ℕ) → x ≡ x' → y ≡ y' → IsGiven (post x y) size f → IsGiven (post x' y') size f
 moved_given post size f x x' y y' column row r = subst (λ n. IsGiven (post n y') size f) column (subst (λ n. IsGiven (post x n) size f) row r)
 
 -- the pixels of painted rows, by their columns and rows in the picture

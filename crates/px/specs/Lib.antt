@@ -1,6 +1,7 @@
 pub mod Area
 pub mod Bands
 pub mod Copied
+pub mod Cover
 pub mod Cut
 pub mod Kind
 pub mod Means

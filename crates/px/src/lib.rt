@@ -7,6 +7,8 @@
 
 mod banding;
 mod copying;
+mod cover;
+mod covering;
 mod depth;
 mod editing;
 mod kind;
@@ -20,6 +22,8 @@ mod trace;
 mod view;
 
 pub use banding::{BandFiller, fill_bands, paint_bands};
+pub use cover::Cover;
+pub use covering::paint_cover;
 pub use depth::Depth;
 pub use editing::repaint;
 pub use kind::{Cfa, Colour, PlaneKind};
@@ -38,6 +42,9 @@ pub const TOP: u32 = 1_048_575;
 
 /// The value of white: what a sample of the greatest brightness is read as, and written from.
 pub const WHITE: u32 = 65_535;
+
+/// Full cover of a pixel by a mask; also the greatest opacity.
+pub const FULL_COVER: u32 = 65_536;
 
 /// The longest side of a picture, in pixels.
 pub const SIDE: u32 = 16_384;

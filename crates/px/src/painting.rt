@@ -22,7 +22,7 @@ pub(crate) struct Rows {
 }
 
 // Fills rows one after another.
-fn fill_in_turn<P: RowPainter>(painter: &P, rows: Rows, values: &mut [u32])
+pub(crate) fn fill_in_turn<P: RowPainter>(painter: &P, rows: Rows, values: &mut [u32])
     requires size { rows.size ≡ P.size painter.now }
     requires asks { AsksIn (area_of rows) (P.asks painter.now) }
     requires gives { GivesTop (area_of rows) (P.gives painter.now) }

@@ -1,11 +1,7 @@
-ghost use Rattle.std.specs.Prelude.{◌↔◌, IsTrue};
-ghost use Rattle.std.specs.List.{All};
-ghost use Rattle.pipe_nodes.specs.Active.{IsPlain};
-
 use history::{Edit, History, Item};
 use modules_raw::Source;
 use params::{Exposure, Module, Params};
-use pipe_nodes::{Active, Show, Window, actives, uncached};
+use pipe_nodes::{Show, Window, uncached};
 use px::{Depth, Plane, PlaneKind, Region};
 use std::alloc::{AllocError, Global};
 use std::test::Fail;
@@ -52,35 +48,22 @@ fn one_pixel(alloc: Global) -> Result<Source, AllocError> {
     Ok(Source::of(plane))
 }
 
-fn are_plain(actives: &[Active]) -> bool
-    ensures { IsTrue result ↔ All IsPlain actives.now }
-{
-    actives.iter().all(|active| active.is_plain())
-}
-
-// The picture of the pixel that the run makes, where nothing that is active has a blend.
-fn shown<R: Threads + Sync>(
-    rt: &R,
-    alloc: Global,
-    history: &History,
-) -> Result<Option<Plane>, AllocError> {
+// The picture of the pixel that the run makes.
+fn shown<R: Threads + Sync>(rt: &R, alloc: Global, history: &History) -> Result<Plane, AllocError> {
     let show = Show {
         level: 0,
         window: Window::Whole,
         depth: Depth::Eight,
     };
-    if !are_plain(&actives(alloc, history)?) {
-        return Ok(None);
-    }
     let source = one_pixel(alloc)?;
-    Ok(Some(uncached(rt, alloc, &source, history, &show)?))
+    uncached(rt, alloc, &source, history, &show)
 }
 
 // 1000 - 1500 is clamped to 0 before 100 is added.
 #[test]
 fn a_second_exposure_works_on_clamped_values(rt: HostRuntime) -> Result<(), Fail> {
     let history = two_exposures(rt.alloc())?;
-    let plane = shown(&rt, rt.alloc(), &history)?.expect(&rt, "a run without blends");
+    let plane = shown(&rt, rt.alloc(), &history)?;
     assert_eq!(rt; plane.values(), [100, 1100, 77_100].as_slice());
     Ok(())
 }

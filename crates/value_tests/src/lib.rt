@@ -3,6 +3,8 @@
 #![tactic(auto)]
 
 #[cfg(test)]
+mod blend_tests;
+#[cfg(test)]
 mod curve_tests;
 #[cfg(test)]
 mod geometry_tests;
@@ -10,6 +12,8 @@ mod geometry_tests;
 mod history_tests;
 #[cfg(test)]
 mod local_modules_tests;
+#[cfg(test)]
+mod masks_tests;
 #[cfg(test)]
 mod mixer_tests;
 #[cfg(test)]

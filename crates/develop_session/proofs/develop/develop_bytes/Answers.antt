@@ -1,21 +1,13 @@
 use Rattle.std.proofs.Common.{◌≡◌, ap, ◌∙◌}
 use Rattle.std.proofs.lemmas.Result.{IfOk-weaker}
-use Rattle.std.proofs.lemmas.List.Elements.{All-same}
 use Rattle.px.specs.Cut.{picture_of}
 use Rattle.pnm.specs.Pnm.{written}
 use Rattle.edit_steps.specs.declared.settings.Settings.{Settings}
 use Rattle.edit_steps.specs.Script.{changes, history_at}
-use Rattle.pipe_nodes.specs.Active.{IsPlain}
 use Rattle.pipe_nodes.specs.Actives.{actives_of}
 use Rattle.pipe_nodes.specs.Whole.{whole}
-use Rattle.dev_core.proofs.BuiltLemmas.{built_at}
 use Rattle.develop_session.proofs.PictureLemmas.{part_of_self}
 use Rattle.develop_session.proofs.develop.develop_bytes.Goals as goal
-
-pub shown_bytes-requires-clause-plain : goal.shown_bytes-requires-clause-plain
-shown_bytes-requires-clause-plain g c =
-    let script = c.args.script.now in
-    λ κs outlived. All-same IsPlain (actives_of c.in_ok-history.history) (actives_of (history_at script c.changes.result)) (ap actives_of c.in_ok-history.ensures) (built_at script c.changes.result c.requires)
 
 pub returns-clause-wide : goal.returns-clause-wide
 returns-clause-wide g c =

@@ -1,19 +1,18 @@
-use Rattle.std.proofs.Common.{◌≡◌, ◌∙◌, ap, sym, subst, take, arith}
+use Rattle.std.proofs.Common.{◌∙◌, ap, sym, subst, take}
 use Rattle.std.specs.Prelude.{unwrap_or}
-use Rattle.std.proofs.lemmas.List.{take_all}
 use Rattle.px.specs.Cut.{IsCutOf, IsWhole}
-use Rattle.pipe_nodes.specs.Active.{IsPlain}
-use Rattle.pipe_nodes.specs.Kinds.{Takes, kind_after}
-use Rattle.pipe_nodes.specs.Whole.{means}
-use Rattle.pipe_nodes.proofs.RunLemmas.{StandsBehind, stands-more, takes-at}
+use Rattle.pipe_nodes.specs.Applied.{HasShape, IsTracing}
+use Rattle.pipe_nodes.specs.Kinds.{Takes, kind_behind}
+use Rattle.pipe_nodes.specs.Whole.{after_one}
+use Rattle.pipe_nodes.proofs.RunLemmas.{stands-more, takes-at, behind-more}
 use Rattle.pipe_nodes.proofs.run.run_over.Goals as goal
 
 pub step-requires-clause-takes : goal.step-requires-clause-takes
 step-requires-clause-takes g c = λ κs outlives.
     let a = c.active-item.result in
     let k = c.loop-active.active-index in
-    let stands = c.loop-active.invariant in
-    subst (Takes a.params) (sym (ap (λ p. p.kind) c.standing.ensures ∙ stands.kind_is)) (takes-at c.args.input.now.kind c.args.actives.now k a c.requires.takes c.loop-active-test.true c.active-item.is)
+    let stands = c.loop-active.invariant.stands in
+    subst (Takes a.params) (sym {b = kind_behind c.args.input.now.kind (take k c.args.actives.now)} (ap (λ p. p.kind) c.standing.ensures ∙ stands.kind_is)) (takes-at c.args.input.now.kind c.args.actives.now k a c.requires.takes c.loop-active-test.true c.active-item.is)
 
 pub loop-active-preserved : goal.loop-active-preserved
 loop-active-preserved g c =
@@ -21,8 +20,11 @@ loop-active-preserved g c =
     let k = c.loop-active.active-index in
     let next = c.in_ok-next.next in
     let stood = c.standing.ensures in
-    let plain : IsPlain a = subst IsPlain (sym c.active-item.is) (c.requires.plain k a c.loop-active-test.true) in
-    stands-more c.args.level c.args.input.now c.args.actives.now k a c.loop-active.made next c.or-made.result c.loop-active-test.true c.active-item.is plain c.or-made.ensures c.loop-active.invariant
-    (subst (λ p. IsWhole (unwrap_or next p)) stood c.in_ok-next.ensures.whole)
-    (subst (λ p. (unwrap_or next p).kind ≡ kind_after p.kind a.params) stood c.in_ok-next.ensures.kind)
-    (λ i held. subst (λ p. IsCutOf (means a.params c.args.level i) (unwrap_or next p)) stood (c.in_ok-next.ensures.cut i (subst (IsCutOf i) (sym stood) held)))
+    record {
+      stands = stands-more c.args.level c.args.source.now c.args.input.now c.args.actives.now k a c.tracing_of-tracing.result c.loop-active.geometry c.loop-active.made next c.or-made.result c.loop-active-test.true c.active-item.is
+          c.or-made.ensures c.loop-active.invariant.stands c.loop-active.invariant.behind c.tracing_of-tracing.ensures.tracing
+          (subst (λ p. IsWhole (unwrap_or next p)) stood c.in_ok-next.ensures.whole)
+          (subst (λ p. HasShape a.params p (unwrap_or next p)) stood c.in_ok-next.ensures.shape)
+          (subst (λ p. (q i : _) (before : _) → IsTracing q c.args.level before (p.w, p.h) c.tracing_of-tracing.result → IsCutOf i p → IsCutOf (after_one q c.args.level before a i) (unwrap_or next p)) stood c.in_ok-next.ensures.cut);
+      behind = behind-more c.args.level (c.args.input.now.w, c.args.input.now.h) c.args.actives.now k a c.loop-active.geometry c.push.new.self c.loop-active-test.true c.active-item.is c.loop-active.invariant.behind c.push.ensures;
+    }

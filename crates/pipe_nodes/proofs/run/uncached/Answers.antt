@@ -1,4 +1,4 @@
-use Rattle.std.proofs.Common.{◌≡◌, ◌∙◌, ap, sym, subst}
+use Rattle.std.proofs.Common.{◌∙◌, ap, sym, subst}
 use Rattle.std.specs.Prelude.{unwrap_or}
 use Rattle.std.proofs.lemmas.Result.{IfOk-weaker}
 use Rattle.px.specs.Cut.{IsCutOf, IsWhole}
@@ -25,4 +25,4 @@ returns-clause-cut g c =
     let level = c.args.show.now.level in
     IfOk-weaker c.owned.result _ _ (λ p given q part.
     let input = subst (IsCutOf (input_of q level)) (ap (λ source. unwrap_or c.in_ok-input.input source) (sym c.plane-plane.ensures.plane) ∙ sym c.standing.ensures) (c.in_ok-input.ensures.cut q part) in
-    given (whole q level (actives_of c.args.history.now)) (subst (IsCutOf (whole q level (actives_of c.args.history.now))) (sym stood) (subst (λ list. IsCutOf (whole q level list) (unwrap_or c.in_ok-made.made c.standing.result.now)) (c.deref.ensures.value ∙ c.in_ok-actives.ensures.value) (c.in_ok-made.ensures.cut q input)))) c.owned.ensures.cut
+    given (whole q level (actives_of c.args.history.now)) (subst (IsCutOf (whole q level (actives_of c.args.history.now))) (sym stood) (subst (λ list. IsCutOf (whole q level list) (unwrap_or c.in_ok-made.made c.standing.result.now)) (c.deref.ensures.value ∙ c.in_ok-actives.ensures.value) (c.in_ok-made.ensures.cut q part input)))) c.owned.ensures.cut
