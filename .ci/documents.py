@@ -3,9 +3,11 @@
 
 - The fields of each module's settings, of a blend and of each mask: the same keys, in the same order, with the same
   ranges and ties, in the definitions (crates/params/specs), in docs/FORMATS.md and in the JSON Schema.
-- Every file of the repository that a document names exists.
+- Every file of the repository that a document names exists, also each that it links to.
+- Each call and each clause of a row of docs/PROOFS.md exists in the sources of its crate, and a row says it in few words.
+- Each definition of a row of docs/DEFINITIONS.md exists in the file of its row.
 
-Prints what disagrees, and ends with 1 where anything does.
+.ci/commands.py tries the commands that the documents show. Prints what disagrees, and ends with 1 where anything does.
 """
 import json
 import re
@@ -179,16 +181,125 @@ def blending_in(schema):
 # ---- files that documents name
 
 
+def pages():
+    """The documents of the repository."""
+    return [p for folder in ("*.md", "docs/*.md", "examples/*.md", "bench/*/*.md") for p in sorted(TOP.glob(folder))]
+
+
 def check_files():
-    roots = [p for p in TOP.glob("*.md")] + [p for p in (TOP / "docs").glob("*.md")]
-    for page in roots:
-        for name in re.findall(r"`([\w./-]+\.(?:md|py|sh|json|rt|antt|ppm|pgm|png|edit|txt))`", page.read_text()):
-            if "/" not in name:
+    for page in pages():
+        text = page.read_text()
+        for name in re.findall(r"`([\w./-]+\.(?:md|py|sh|json|rt|antt|ppm|pgm|png|edit|txt))`", text):
+            places = [TOP / name, TOP / "crates" / name, TOP / "docs" / name, page.parent / name]
+            if "/" in name and not any(p.exists() for p in places):
+                say(f"{page.name}: no file {name}")
+        for link in re.findall(r"\]\(([^)#:]+)(?:#[^)]*)?\)", text):
+            if not (page.parent / link).exists():
+                say(f"{page.name}: a link to {link}, which is no file")
+
+
+# ---- the rows of docs/PROOFS.md
+
+PROOFS = TOP / "docs/PROOFS.md"
+# A row says what its clause says in so many words at most.
+WORDS = 25
+
+
+def cells_in(line):
+    return [c.strip() for c in line.strip().strip("|").split("|")]
+
+
+def names_in(cell):
+    return re.findall(r"`([^`]+)`", cell)
+
+
+def clauses_of(crate):
+    """The names of each function's clauses, by the function: `Type::name`, or `name` alone; "" is a clause without a name.
+    What a type keeps at all times is the clause `type` of its name."""
+    clauses = {}
+    for path in sorted((TOP / "crates" / crate / "src").glob("*.rt")):
+        owner, call = "", None
+        for line in path.read_text().splitlines():
+            block = re.match(r"(?:pub )?(?:impl|trait)\b(?:<.*?>)? *(?:.* for )?(\w+)", line)
+            function = re.match(r"\s*(?:pub )?(?:const )?fn (\w+)", line)
+            ensures = re.match(r"\s*ensures\*?(?: (\w+))? \{", line)
+            if block:
+                owner, call = block[1], None
+            elif line == "}":
+                owner, call = "", None
+            elif function:
+                call = f"{owner}::{function[1]}" if owner else function[1]
+                clauses.setdefault(call, set())
+            elif ensures and call:
+                clauses[call].add(ensures[1] or "")
+            elif re.match(r"\s*ghost invariant =", line) and owner:
+                clauses.setdefault(owner, set()).add("type")
+    return clauses
+
+
+def check_proofs():
+    count, known, crates = 0, {}, []
+    for line in PROOFS.read_text().splitlines():
+        if line.startswith("## "):
+            crates = [n for n in names_in(line) if (TOP / "crates" / n).is_dir()]
+            known = {c: clauses_of(c) for c in crates}
+        columns = cells_in(line) if line.startswith("|") else []
+        if not crates or len(columns) != 3 or not names_in(columns[0]):
+            continue
+        count += 1
+        calls, wanted, says = columns
+        if len(says.split()) > WORDS:
+            say(f"{PROOFS.name}: {calls} {wanted}: {len(says.split())} words")
+        for call in names_in(calls):
+            first, _, rest = call.partition("::")
+            crate, at = (first, rest) if rest and first in crates else (crates[0], call)
+            found = known[crate].get(at)
+            if found is None:
+                say(f"{PROOFS.name}: {crate} has no {at}")
                 continue
-            places = [TOP / name, TOP / "crates" / name, TOP / "docs" / name]
-            crate_first = re.match(r"(\w+)/(specs|src|proofs)/", name)
-            if not any(p.exists() for p in places):
-                say(f"{page.name}: no file {name}" + (" under crates/" if crate_first else ""))
+            for name in {"one clause": [""], "type": ["type"]}.get(wanted, names_in(wanted)):
+                if name not in found:
+                    say(f"{PROOFS.name}: {at} of {crate} has no clause `{name}`")
+    named = {n for line in PROOFS.read_text().splitlines() if line.startswith("## ") for n in names_in(line)}
+    for line in (TOP / "crates.txt").read_text().splitlines():
+        crate = line.split(":")[0]
+        if re.match(r"\w", line) and crate not in named | {"devcore", "rows"} and not crate.endswith("_tests"):
+            say(f"{PROOFS.name}: nothing of the crate {crate}")
+    return count
+
+
+# ---- the rows of docs/DEFINITIONS.md
+
+DEFINITIONS = TOP / "docs/DEFINITIONS.md"
+
+
+def definition_files(cell):
+    """The files of a row: a name without a folder lies beside the one before it."""
+    files, folder = [], None
+    for name in names_in(cell):
+        path = TOP / "crates" / name if "/" in name else folder / name
+        folder = path.parent
+        files.append(path)
+    return files
+
+
+def check_definitions():
+    count = 0
+    for line in DEFINITIONS.read_text().splitlines():
+        columns = cells_in(line) if line.startswith("|") else []
+        if len(columns) != 3 or not columns[2].startswith("`"):
+            continue
+        count += 1
+        files = definition_files(columns[2])
+        text = "\n".join(p.read_text() for p in files if p.exists())
+        for path in files:
+            if not path.exists():
+                say(f"{DEFINITIONS.name}: no file {path.relative_to(TOP)}")
+        for name in names_in(columns[0]):
+            word = name.split()[0]
+            if not re.search(rf"(?m)^ *(?:(?:abbrev|unfoldable|record|data|pub) )*{re.escape(word)}(?= |$)", text):
+                say(f"{DEFINITIONS.name}: {columns[2]} has no {word}")
+    return count
 
 
 def main():
@@ -206,9 +317,11 @@ def main():
     if blending_in(schema) != blending:
         say(f"{SCHEMA.name}: {blending_in(schema)} blend for {blending}")
     check_files()
+    claims = check_proofs()
+    words = check_definitions()
     for text in wrong:
         print(text)
-    print(f"documents: {len(defined)} rows of fields, {len(wrong)} disagreements")
+    print(f"documents: {len(defined)} rows of fields, {claims} of promises, {words} of definitions, {len(wrong)} disagreements")
     sys.exit(1 if wrong else 0)
 
 

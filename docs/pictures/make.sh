@@ -1,15 +1,21 @@
 #!/usr/bin/env bash
-# Makes the pictures of the README from the program's own output: the landscape before and after its script.
+# Makes the pictures of the documents from the program's own output: the landscape before and after its script, and the
+# recipes.
+#
+# Usage: make.sh [FOLDER]     FOLDER is where the PNGs go, this one by default
 set -euo pipefail
-cd "$(dirname "$0")"
-top="$(cd ../.. && pwd)"
+here="$(cd "$(dirname "$0")" && pwd)"
+top="$(cd "$here/../.." && pwd)"
+folder="${1:-$here}"
 room="$(mktemp -d)"
 trap 'rm -rf "$room"' EXIT
-landscape="$top/examples/landscape"
-python3 "$landscape/make_source.py" "$room/source.pgm"
-for picture in before after; do
-  script="$landscape/script.json"
-  if [ "$picture" = before ]; then script="$landscape/before.json"; fi
-  "$top/bin/devcore" develop "$script" "$room/source.pgm" "$room/$picture.ppm"
-  python3 png.py "$room/$picture.ppm" "$picture.png"
+python3 "$top/examples/landscape/make_source.py" "$room/source.pgm"
+picture() { # the PNG's name, its script under examples/
+  "$top/bin/devcore" develop "$top/examples/$2.json" "$room/source.pgm" "$room/$1.ppm" > /dev/null
+  python3 "$here/png.py" "$room/$1.ppm" "$folder/$1.png"
+}
+picture before landscape/before
+picture after landscape/script
+for recipe in white_balance exposure s_curve graduated_sky vignette behind_a_crop; do
+  picture "$recipe" "recipes/$recipe"
 done

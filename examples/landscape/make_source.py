@@ -46,7 +46,7 @@ def sample(x, y):
     """What the sensor reads in column x and row y."""
     colour = (0, 1, 1, 2)[x % 2 + 2 * (y % 2)]
     light = max(0.0, min(1.0, scene(x, y)[colour])) * KEEPS[colour] * 0.45
-    grain = ((x * 7919 + y * 104729 + x * y * 31) % 97 - 48) * 0.9
+    grain = ((x * 7919 + y * 104729 + x * y * 31) % 97 - 48) * 0.4
     return max(0, min(16383, round(BLACK + light * (WHITE - BLACK) + grain)))
 
 
