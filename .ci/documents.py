@@ -5,7 +5,8 @@
   ranges and ties, in the definitions (crates/params/specs), in docs/FORMATS.md and in the JSON Schema.
 - Every file of the repository that a document names exists, also each that it links to.
 - Each call and each clause of a row of docs/PROOFS.md exists in the sources of its crate, and a row says it in few words.
-- Each definition of a row of docs/DEFINITIONS.md exists in the file of its row.
+- Each definition of a row of docs/DEFINITIONS.md exists in the file of its row, and the row begins with the comment that
+  stands above it there, where there is one.
 
 .ci/commands.py tries the commands that the documents show. Prints what disagrees, and ends with 1 where anything does.
 """
@@ -283,6 +284,15 @@ def definition_files(cell):
     return files
 
 
+def comment_above(text, at):
+    """The comment above a definition that begins at a place of a text, as one line. The first lines of a file are of the
+    file."""
+    lines, comment = text[:at].split("\n")[:-1], []
+    while lines and lines[-1].strip().startswith("--"):
+        comment.insert(0, lines.pop().strip()[2:].strip())
+    return " ".join(comment).rstrip(".").replace("|", "\\|") if lines else ""
+
+
 def check_definitions():
     count = 0
     for line in DEFINITIONS.read_text().splitlines():
@@ -296,9 +306,14 @@ def check_definitions():
             if not path.exists():
                 say(f"{DEFINITIONS.name}: no file {path.relative_to(TOP)}")
         for name in names_in(columns[0]):
-            word = name.split()[0]
-            if not re.search(rf"(?m)^ *(?:(?:abbrev|unfoldable|record|data|pub) )*{re.escape(word)}(?= |$)", text):
-                say(f"{DEFINITIONS.name}: {columns[2]} has no {word}")
+            word = re.escape(name.split()[0])
+            at = re.search(rf"(?m)^ *(?:(?:abbrev|unfoldable|record|data|pub) )*{word}(?= |$)", text)
+            if at is None:
+                say(f"{DEFINITIONS.name}: {columns[2]} has no {name}")
+                continue
+            comment = comment_above(text, at.start())
+            if comment and not (columns[1] + ": ").replace(".: ", ": ").startswith(comment + ": "):
+                say(f"{DEFINITIONS.name}: {name} is said to be {columns[1]!r}, and above it stands {comment!r}")
     return count
 
 
