@@ -7,7 +7,8 @@ the commands of a block say is the block of `text` behind it. What they write, a
 .ci/written.txt: a line for each command with its status, then one for each file, with its SHA-256 and name. These answers
 were worked out by another program, from the formulas of docs/FORMATS.md.
 
-The pictures of docs/pictures are made once more and compared pixel by pixel.
+The pictures of docs/pictures are made once more and compared pixel by pixel. The blocks of `json` of the guide stand in the
+script that it explains.
 
 Prints what differs, and ends with 1 where anything does. The built program has to stand at crates/devcore/out/devcore.
 """
@@ -105,13 +106,23 @@ def check_pictures():
     return len(kept)
 
 
+def check_quotes():
+    script = "".join((TOP / "examples/landscape/script.json").read_text().split())
+    quotes = [lines for language, lines in blocks((TOP / "docs/GUIDE.md").read_text()) if language == "json"]
+    for lines in quotes:
+        if "".join("".join(lines).split()) not in script:
+            wrong.append(f"docs/GUIDE.md: {lines[0]} .. isn't in the landscape's script")
+    return len(quotes)
+
+
 def main():
     known = answers()
     count = sum(try_page(page, known) for page in PAGES)
     pictures = check_pictures()
+    quotes = check_quotes()
     for text in wrong:
         print(text)
-    print(f"commands: {count} commands, {pictures} pictures, {len(wrong)} differences")
+    print(f"commands: {count} commands, {pictures} pictures, {quotes} quotes, {len(wrong)} differences")
     sys.exit(1 if wrong else 0)
 
 
