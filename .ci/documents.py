@@ -184,7 +184,7 @@ def blending_in(schema):
 
 def pages():
     """The documents of the repository."""
-    return [p for folder in ("*.md", "docs/*.md", "examples/*.md", "bench/*/*.md") for p in sorted(TOP.glob(folder))]
+    return [p for folder in ("*.md", "docs/*.md", "examples/*.md", "bench/*.md", "bench/*/*.md") for p in sorted(TOP.glob(folder))]
 
 
 def check_files():
