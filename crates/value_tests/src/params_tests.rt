@@ -20,10 +20,16 @@ const SETTINGS: [(Module, &str); 10] = [
     (Module::RawPrepare, r#"{"black":[64,65,66],"white":1023}"#),
     (Module::Temperature, r#"{"mul":[8192,4096,6144]}"#),
     (Module::Demosaic, "{}"),
-    (Module::Orientation, r#"{"flip_x":false,"flip_y":true,"swap":true}"#),
+    (
+        Module::Orientation,
+        r#"{"flip_x":false,"flip_y":true,"swap":true}"#,
+    ),
     (Module::Crop, r#"{"bottom":4,"left":1,"right":3,"top":2}"#),
     (Module::Exposure, r#"{"black":-1,"gain":65536,"stops":-4}"#),
-    (Module::ChannelMixer, r#"{"rows":[[4096,-4096,0],[0,4096,0],[2048,2048,1]]}"#),
+    (
+        Module::ChannelMixer,
+        r#"{"rows":[[4096,-4096,0],[0,4096,0],[2048,2048,1]]}"#,
+    ),
     (
         Module::ToneCurve,
         r#"{"blue":[[100,200],[300,100]],"green":[[0,0],[1,1]],"red":[[0,9],[7,5]]}"#,
@@ -36,7 +42,12 @@ const SETTINGS: [(Module, &str); 10] = [
 fn settings_are_read_and_written_again(rt: HostRuntime) -> Result<(), Fail> {
     let alloc = rt.alloc();
     for (module, text) in SETTINGS {
-        let params = of_json(alloc, module, module.newest(), &Value::from_str(alloc, text)?)?;
+        let params = of_json(
+            alloc,
+            module,
+            module.newest(),
+            &Value::from_str(alloc, text)?,
+        )?;
         let written = to_json(alloc, &params)?.to_string(alloc)?;
         assert_eq!(rt; written.as_str(), text);
     }
