@@ -5,6 +5,8 @@
 #[cfg(test)]
 mod dev_core_tests;
 #[cfg(test)]
+mod stage_cache_tests;
+#[cfg(test)]
 mod stepped_tests;
 #[cfg(test)]
 mod subjects;

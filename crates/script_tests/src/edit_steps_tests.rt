@@ -2,10 +2,10 @@ ghost use Rattle.std.specs.Prelude.{◌≤◌};
 ghost use Rattle.edit_steps.specs.Ranges.{IsSettings, IsStepWithin};
 ghost use Rattle.edit_steps.specs.Script.{changes};
 
-use edit_steps::{Draft, Reason, Script, ScriptEnd, ScriptFault, Settings, Step};
-use history::{Edit, EditFault, History, Item, Kinds};
+use edit_steps::{Draft, Reason, Script, Settings, Step};
+use history::{Edit, History, Item, Kinds};
 use outside::Pipe;
-use params::{Exposure, Field, Module, ParamFault, Params};
+use params::{Exposure, Field, ParamFault, Params};
 use px::View;
 use std::alloc::{AllocError, Global};
 use std::test::Fail;
@@ -28,58 +28,6 @@ const ZOOMED: Kinds = Kinds {
     remove: false,
     zoomed: true,
 };
-
-// The step and the reason of a refusal.
-fn refusal(answer: Result<(), ScriptEnd>) -> Option<ScriptFault> {
-    match answer {
-        Err(ScriptEnd::Fault(fault)) => Some(fault),
-        _ => None,
-    }
-}
-
-#[test]
-fn the_257th_change_is_refused(rt: HostRuntime) -> Result<(), Fail> {
-    let alloc = rt.alloc();
-    let mut draft = start(alloc)?;
-    for _ in 0..256 {
-        draft.push(alloc, Step::View(NEXT_VIEW))?;
-    }
-    let more = draft.push(alloc, Step::Edit(Edit::Compress));
-    assert_eq!(rt;
-        refusal(more),
-        Some(ScriptFault {
-            step: 257,
-            reason: Reason::TooManyChanges
-        })
-    );
-    assert_eq!(rt; draft.finish().changes(), 256);
-    Ok(())
-}
-
-fn added(instance: u8) -> Step
-    ensures { IsStepWithin result }
-{
-    Step::Edit(Edit::Add {
-        module: Module::Exposure,
-        instance,
-        place: 8,
-    })
-}
-
-#[test]
-fn the_65th_instance_is_refused(rt: HostRuntime) -> Result<(), Fail> {
-    let alloc = rt.alloc();
-    let mut draft = start(alloc)?;
-    for instance in 1..57 {
-        draft.push(alloc, added(instance))?;
-    }
-    let reason = Reason::Edit(EditFault::TooManyInstances);
-    assert_eq!(rt;
-        refusal(draft.push(alloc, added(57))),
-        Some(ScriptFault { step: 57, reason })
-    );
-    Ok(())
-}
 
 // Sets the exposure's gain to 2.
 fn brighter() -> Step

@@ -15,6 +15,8 @@ mod local_modules_tests;
 #[cfg(test)]
 mod masks_tests;
 #[cfg(test)]
+mod mip_cache_tests;
+#[cfg(test)]
 mod mixer_tests;
 #[cfg(test)]
 mod module_order_tests;

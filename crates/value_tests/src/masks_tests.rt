@@ -1,3 +1,5 @@
+ghost use Rattle.std.specs.Prelude.{◌<◌, ◌≤◌};
+
 use geometry::Geometry;
 use masks::coverage;
 use params::{Crop, Orientation, Params, Shape};

@@ -15,6 +15,6 @@ returns-then-not-is_free c =
 pub returns : goal.returns
 returns c =
     let s = c.self.inside in
-    let ours = c.script.ensures.script ∙ ap (λ (x : SubjectSeen). x.script) c.deref.ensures in
+    let ours = c.script.ensures ∙ ap (λ (x : SubjectSeen). x.script) c.deref.ensures in
     complete_by_full (arc_value s.subject) s.step_count s.journal s.frames s.desk _ c.self.view_is c.self.invariant _ c.if-not-self.false c.if-self.false (c.if-not-is_free.ensures.0 refl)
     (subst (λ (x : Recipe). IsTrue c.is_up_to_date.result ↔ IsUpToDate x s.desk Full) ours c.is_up_to_date.ensures)

@@ -1,0 +1,4 @@
+pub mod EntryLemmas
+pub mod FindLemmas
+pub mod FrontLemmas
+pub mod KeepLemmas
