@@ -5,7 +5,7 @@ A command is a line of a block of `sh` that begins with `bin/devcore`; lines tha
 those after them. All lines of a document run in turn in one temporary folder, in which `examples` is the repository's. What
 the commands of a block say is the block of `text` behind it. What they write, and their exit status, stand in
 .ci/written.txt: a line for each command with its status, then one for each file, with its SHA-256 and name. These answers
-were worked out by another program, from the formulas of docs/FORMATS.md.
+come from .ci/formulas.py, and not from the program.
 
 The pictures of docs/pictures are made once more and compared pixel by pixel. The blocks of `json` of the guide stand in the
 script that it explains.
