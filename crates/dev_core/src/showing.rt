@@ -11,12 +11,6 @@ pub fn make_frame<R: Threads + Sync>(rt: &R, alloc: Global, job: &Job) -> Result
     ensures { IfOk result (λ f. f ≡ frame_of job.now) }
 {
     let source = job.subject().source();
-    let (_, _, bytes) = pipe_nodes::shown_bytes(
-        rt,
-        alloc,
-        source,
-        job.history(),
-        job.show().depth,
-    )?;
+    let (_, _, bytes) = pipe_nodes::shown_bytes(rt, alloc, source, job.history(), &job.show())?;
     Frame::of(job, bytes)
 }

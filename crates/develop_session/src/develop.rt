@@ -17,7 +17,7 @@ use crate::status::Status;
 use edit_steps::Script;
 use modules_raw::Source;
 use outside::{Said, Shelf};
-use pipe_nodes::shown_bytes;
+use pipe_nodes::{Show, Window, shown_bytes};
 use std::alloc::{AllocError, Global};
 use std::thread::Threads;
 
@@ -33,7 +33,12 @@ fn develop_bytes<R: Threads + Sync>(
     ensures bytes { IfOk result (λ made. made.2.items ≡ out_bytes script.now (picture_of source.now)) }
 {
     let history = script.history_at(alloc, script.changes())?;
-    shown_bytes(rt, alloc, source, &history, script.settings().depth)
+    let show = Show {
+        level: 0,
+        window: Window::Whole,
+        depth: script.settings().depth,
+    };
+    shown_bytes(rt, alloc, source, &history, &show)
 }
 
 // Reads, develops and puts; the sides of the picture.

@@ -9,3 +9,5 @@ pub mod PrefixLemmas
 pub mod StageLemmas
 pub mod SameLemmas
 pub mod ApplyLemmas
+pub mod ScaleLemmas
+pub mod WindowLemmas

@@ -6,3 +6,4 @@ pub mod Prefix
 pub mod SamePrefix
 pub mod Staged
 pub mod Whole
+pub mod Windows

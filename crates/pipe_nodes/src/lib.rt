@@ -12,10 +12,12 @@ mod piece;
 mod prefix;
 mod render;
 mod run;
+mod scaling;
 mod show;
 mod staged;
 mod steps;
 mod tracing;
+mod windowing;
 
 pub use active::Active;
 pub use counting::active_count;
@@ -26,3 +28,4 @@ pub use run::{shown_bytes, uncached};
 pub use show::{Show, Window};
 pub use staged::Staged;
 pub use steps::Steps;
+pub use windowing::{needed_region, window_of};

@@ -5,23 +5,24 @@ ghost use Rattle.px.specs.declared.kind.PlaneKind.TheVariants.{Rgb};
 ghost use Rattle.px.specs.Cut.{IsCutOf, IsWhole};
 ghost use Rattle.px.specs.Picture.{Picture};
 ghost use Rattle.pnm.specs.Pnm.{written};
-ghost use Rattle.pipe_nodes.specs.declared.show.Window.TheVariants.{Whole};
 ghost use Rattle.pipe_nodes.specs.declared.active.Active.{Active as AnyActive};
 ghost use Rattle.pipe_nodes.specs.Active.{IsFit};
 ghost use Rattle.pipe_nodes.specs.Applied.{CanTrace, HasShape, IsTracing};
 ghost use Rattle.pipe_nodes.specs.Actives.{actives_of};
 ghost use Rattle.pipe_nodes.specs.Kinds.{Takes, AllTake, kind_behind};
 ghost use Rattle.pipe_nodes.specs.Whole.{after_one, input_of, whole};
+ghost use Rattle.pipe_nodes.specs.Windows.{CanShow, windowed};
 
 use crate::active::Active;
 use crate::gather::actives;
 use crate::making::make;
 use crate::show::{Show, Window};
 use crate::tracing::{Tracing, tracing_of};
+use crate::windowing::{needed_region, window_of};
 use geometry::{Geometry, roi_back, roi_out};
 use history::History;
 use modules_raw::{Source, level};
-use px::{Depth, Plane, Region};
+use px::{Plane, Region};
 use std::alloc::{AllocError, Global};
 use std::thread::Threads;
 
@@ -127,22 +128,42 @@ fn owned(alloc: Global, made: Option<Plane>, before: &Plane) -> Result<Plane, Al
     }
 }
 
-/// The picture that what is active in a history makes of a level of a source, as a whole RGB plane. So
-/// far a run shows the whole window.
-pub fn uncached<R: Threads + Sync>(
+// What a window shows of a whole plane, where it isn't that plane itself.
+fn window_over<R: Threads + Sync>(
+    rt: &R,
+    alloc: Global,
+    plane: &Plane,
+    window: &Window,
+) -> Result<Option<Plane>, AllocError>
+    requires can { CanShow window.now }
+    requires whole { IsWhole plane.now }
+    requires rgb { plane.now.kind ≡ Rgb }
+    ensures whole { IfOk result (λ made. IsWhole (unwrap_or made plane.now)) }
+    ensures rgb { IfOk result (λ made. (unwrap_or made plane.now).kind ≡ Rgb) }
+    ensures cut { IfOk result (λ made. (q : Picture) → IsCutOf q plane.now → IsCutOf (windowed q window.now) (unwrap_or made plane.now)) }
+{
+    if let Window::Whole = window {
+        return Ok(None);
+    }
+    let (w, h) = plane.sides();
+    prove!(plane.region().covers(needed_region(window, w, h)));
+    Ok(Some(window_of(rt, alloc, plane, window)?))
+}
+
+// The plane that is shown of a history's run over a source, where it isn't the source's own.
+fn shown<R: Threads + Sync>(
     rt: &R,
     alloc: Global,
     source: &Source,
     history: &History,
     show: &Show,
-) -> Result<Plane, AllocError>
+) -> Result<Option<Plane>, AllocError>
     requires level { show.now.level ≤ 8 }
-    requires window { show.now.window ≡ Whole }
-    ensures whole { IfOk result IsWhole }
-    ensures rgb { IfOk result (λ p. p.kind ≡ Rgb) }
-    ensures cut { IfOk result (λ p. (q : Picture) → IsCutOf q source.now → IsCutOf (whole q show.now.level (actives_of history.now)) p) }
+    requires window { CanShow show.now.window }
+    ensures whole { IfOk result (λ made. IsWhole (unwrap_or made source.now)) }
+    ensures rgb { IfOk result (λ made. (unwrap_or made source.now).kind ≡ Rgb) }
+    ensures cut { IfOk result (λ made. (q : Picture) → IsCutOf q source.now → IsCutOf (windowed (whole q show.now.level (actives_of history.now)) show.now.window) (unwrap_or made source.now)) }
 {
-    prove!(matches!(&show.window, Window::Whole));
     let actives = actives(alloc, history)?;
     let plane = source.plane();
     let input = level_of(rt, alloc, source, show.level)?;
@@ -154,25 +175,47 @@ pub fn uncached<R: Threads + Sync>(
         standing(&input, plane),
         &actives,
     )?;
-    owned(alloc, made.or(input), plane)
+    let made = made.or(input);
+    let seen = window_over(rt, alloc, standing(&made, plane), &show.window)?;
+    Ok(seen.or(made))
 }
 
-/// The same picture, of level 0, as the bytes of a P6 of this depth, with its sides. The source is written
-/// from where it stands, if nothing changes it.
+/// What a window shows of the picture that what is active in a history makes of a level of a source, as a
+/// whole RGB plane: a run over whole pictures.
+pub fn uncached<R: Threads + Sync>(
+    rt: &R,
+    alloc: Global,
+    source: &Source,
+    history: &History,
+    show: &Show,
+) -> Result<Plane, AllocError>
+    requires level { show.now.level ≤ 8 }
+    requires window { CanShow show.now.window }
+    ensures whole { IfOk result IsWhole }
+    ensures rgb { IfOk result (λ p. p.kind ≡ Rgb) }
+    ensures cut { IfOk result (λ p. (q : Picture) → IsCutOf q source.now → IsCutOf (windowed (whole q show.now.level (actives_of history.now)) show.now.window) p) }
+{
+    let made = shown(rt, alloc, source, history, show)?;
+    owned(alloc, made, source.plane())
+}
+
+/// The same picture as the bytes of a P6 of the shown depth, with its sides. The source is written from
+/// where it stands, if nothing changes it.
 pub fn shown_bytes<R: Threads + Sync>(
     rt: &R,
     alloc: Global,
     source: &Source,
     history: &History,
-    depth: Depth,
+    show: &Show,
 ) -> Result<(u32, u32, Vec<u8>), AllocError>
-    ensures wide { IfOk result (λ shown. (q : Picture) → IsCutOf q source.now → shown.0 ≡ (whole q 0 (actives_of history.now)).w) }
-    ensures high { IfOk result (λ shown. (q : Picture) → IsCutOf q source.now → shown.1 ≡ (whole q 0 (actives_of history.now)).h) }
-    ensures bytes { IfOk result (λ shown. (q : Picture) → IsCutOf q source.now → shown.2.items ≡ written (whole q 0 (actives_of history.now)) depth) }
+    requires level { show.now.level ≤ 8 }
+    requires window { CanShow show.now.window }
+    ensures wide { IfOk result (λ shown. (q : Picture) → IsCutOf q source.now → shown.0 ≡ (windowed (whole q show.now.level (actives_of history.now)) show.now.window).w) }
+    ensures high { IfOk result (λ shown. (q : Picture) → IsCutOf q source.now → shown.1 ≡ (windowed (whole q show.now.level (actives_of history.now)) show.now.window).h) }
+    ensures bytes { IfOk result (λ shown. (q : Picture) → IsCutOf q source.now → shown.2.items ≡ written (windowed (whole q show.now.level (actives_of history.now)) show.now.window) show.now.depth) }
 {
-    let actives = actives(alloc, history)?;
-    let made = run_over(rt, alloc, source, 0, source.plane(), &actives)?;
+    let made = shown(rt, alloc, source, history, show)?;
     let plane = standing(&made, source.plane());
     let (w, h) = plane.sides();
-    Ok((w, h, pnm::write(alloc, plane, depth)?))
+    Ok((w, h, pnm::write(alloc, plane, show.depth)?))
 }

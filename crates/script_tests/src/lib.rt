@@ -10,3 +10,7 @@ mod edit_steps_tests;
 mod piece_tests;
 #[cfg(test)]
 mod pipe_nodes_tests;
+#[cfg(test)]
+mod pipe_run_tests;
+#[cfg(test)]
+mod pipe_sync_tests;
