@@ -1,10 +1,7 @@
 -- Lemmas on the stages of a run.
-use Rattle.std.proofs.Common.{◌≡◌, ℕ, zero, suc, ◌+◌, ◌-◌, ◌/◌, ◌<◌, ◌≤◌, List, [], ◌∷◌, ◌++◌, length, get_or, take, drop, refl, sym, ap, ◌∙◌, subst, arith, Option, Some, None}
-use Rattle.std.specs.Prelude.{Result, Ok, Err, IfOk}
+use Rattle.std.proofs.Common.{◌≡◌, ℕ, zero, suc, ◌+◌, ◌<◌, ◌≤◌, List, [], ◌∷◌, ◌++◌, length, get_or, take, drop, refl, sym, ap, ◌∙◌, subst, arith}
 use Rattle.std.proofs.lemmas.List.{take_more, take_all, drop_more}
 use Rattle.params.specs.declared.settings.Params.{Params}
-use Rattle.px.specs.declared.kind.PlaneKind.{PlaneKind}
-use Rattle.px.specs.declared.kind.PlaneKind.TheVariants.{Rgb}
 use Rattle.px.specs.Area.{Area, Covers, IsIn}
 use Rattle.px.specs.Cut.{Cut, IsCutOf, IsWhole, picture_of}
 use Rattle.px.specs.Picture.{Picture}

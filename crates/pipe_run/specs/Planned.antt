@@ -1,5 +1,5 @@
 -- The regions of a run.
-use Rattle.std.specs.Prelude.{◌≡◌, ℕ, List, [], ◌∷◌}
+use Rattle.std.specs.Prelude.{ℕ, List, [], ◌∷◌}
 use Rattle.params.specs.declared.settings.Params.{Params}
 use Rattle.px.specs.Area.{Area, IsIn}
 use Rattle.px.specs.Cut.{Cut}

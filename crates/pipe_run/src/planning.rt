@@ -1,6 +1,6 @@
 //! The regions of a run, before a pixel is made.
 ghost use Rattle.std.specs.Prelude.{◌≡◌, ◌+◌, ◌<◌, ◌≤◌, List, ◌∷◌, ◌++◌, length, reverse, IfOk, vec_len, vec_capacity};
-ghost use Rattle.px.specs.Area.{Area, Fits, IsIn};
+ghost use Rattle.px.specs.Area.{Area, Fits};
 ghost use Rattle.pipe_nodes.specs.Windows.{CanShow};
 ghost use Rattle.pipe_run.specs.Planned.{sides_at, planned, AreInside};
 

@@ -1,5 +1,5 @@
 -- How much of a pipe's nodes a change of its history makes anew.
-use Rattle.std.specs.Prelude.{◌≡◌, ℕ, ◌+◌, true, false, if◌then◌else◌, List, [], ◌∷◌, Option, Some, None}
+use Rattle.std.specs.Prelude.{◌≡◌, ℕ, ◌+◌, false, if◌then◌else◌, List, [], ◌∷◌, Option, Some, None}
 use Rattle.history.specs.declared.changes.Kinds.{Kinds}
 use Rattle.pipe_nodes.specs.declared.active.Active.{Active}
 use Rattle.pipe_nodes.specs.SamePrefix.{same_active}

@@ -1,6 +1,4 @@
 ghost use Rattle.std.specs.Prelude.{◌≡◌, ◌+◌, ◌≤◌, [], IsOk, OnOk, OnErr};
-ghost use Rattle.std.specs.List.{All};
-ghost use Rattle.pipe_nodes.specs.Active.{IsFit};
 ghost use Rattle.px.specs.declared.kind.PlaneKind.{PlaneKind};
 ghost use Rattle.pipe_nodes.specs.Actives.{actives_of};
 ghost use Rattle.pipe_nodes.specs.Kinds.{IsRun};
@@ -22,9 +20,7 @@ pub struct Nodes {
 
 impl Model for Nodes {
     ghost use Rattle.std.specs.Prelude.{List};
-    ghost use Rattle.std.specs.List.{All};
     ghost use Rattle.pipe_nodes.specs.declared.active.Active.{Active};
-    ghost use Rattle.pipe_nodes.specs.Active.{IsFit};
 
     ghost Value = { List Active };
 

@@ -1,6 +1,5 @@
 use Rattle.std.proofs.Common.{◌≡◌, ℕ, ◌∷◌, ◌∙◌, ap, subst}
 use Rattle.params.specs.declared.settings.Params.{Params}
-use Rattle.px.specs.Area.{Area}
 use Rattle.geometry.specs.Needed.{needed}
 use Rattle.geometry.specs.Sides.{sides_after}
 use Rattle.pipe_nodes.specs.declared.active.Active.{Active}

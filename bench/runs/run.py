@@ -1,0 +1,96 @@
+#!/usr/bin/env python3
+"""How long a view of a large picture takes, by its size: a run over regions, from plan to window.
+
+Usage: bench/runs/run.py [SCRIPT SOURCE] [--rounds N]; wants rt. Without names it makes a mosaic of 24 megapixels and a script with
+fourteen active module instances, two of them blended by masks. It proves and builds the program `main.rt.txt` in a temporary
+folder, and leaves nothing behind. Prints medians of milliseconds, and of milliseconds a megapixel."""
+import json, os, shutil, statistics, subprocess, sys, tempfile
+
+here = os.path.dirname(os.path.abspath(__file__))
+top = os.path.dirname(os.path.dirname(here))
+words = sys.argv[1:]
+rounds = 5
+if "--rounds" in words:
+    at = words.index("--rounds")
+    rounds = int(words[at + 1])
+    del words[at:at + 2]
+libraries = {l.split(":")[0]: l for l in open(os.path.join(top, "crates.txt")) if ":" in l and not l.startswith("#")}
+
+
+def needed(name):
+    """The crate and those that it stands on, lowest first."""
+    found = []
+    for below in libraries[name].split(":")[1].split():
+        if below in libraries:
+            found += [it for it in needed(below) if it not in found]
+    return found + [name]
+
+
+def built(work):
+    crates = []
+    for name in ["pipe_run", "pipe_sync", "edit_script"]:
+        crates += [it for it in needed(name) if it not in crates]
+    for name in crates:
+        shutil.copytree(os.path.join(top, "crates", name), os.path.join(work, "crates", name),
+                        ignore=lambda folder, names: {n for n in names if n in ("out", "must-fail")})
+    open(os.path.join(work, "crates.txt"), "w").write("".join(libraries[it] for it in crates) + "run_times: " + " ".join(crates) + "\n")
+    shutil.copy(os.path.join(top, "HANDLES"), work)
+    folder = os.path.join(work, "crates", "run_times")
+    os.makedirs(os.path.join(folder, "src"))
+    shutil.copy(os.path.join(here, "main.rt.txt"), os.path.join(folder, "src", "main.rt"))
+    open(os.path.join(folder, "stdin"), "w").close()
+    log = subprocess.run([os.environ.get("RT", "rt"), "run"], cwd=folder, capture_output=True, text=True)
+    program = os.path.join(folder, "out", "run_times")
+    if not os.path.exists(program):
+        sys.exit(log.stdout[-3000:] + log.stderr[-1000:])
+    return program
+
+
+def made(work):
+    """A mosaic of 6000 by 4000 samples of 14 bits, and a script."""
+    rows = [b"".join(((x * 2 + y * 3 + (x * y) % 251) % 15000 + 600).to_bytes(2, "big") for x in range(6000)) for y in range(40)]
+    with open(os.path.join(work, "source.pgm"), "wb") as out:
+        out.write(b"P5\n6000 4000\n16383\n" + b"".join(rows) * 100)
+    curve = [[0, 0], [8000, 7000], [30000, 36000], [65535, 65535]]
+    exposure = lambda gain: {"black": 100, "gain": gain}
+    sets = [
+        ("rawprepare", 0, {"black": [512, 512, 512], "white": 16000}, None),
+        ("temperature", 0, {"mul": [8000, 4096, 6000]}, None),
+        ("orientation", 0, {"swap": False, "flip_x": True, "flip_y": False}, None),
+        ("crop", 0, {"left": 0, "top": 0, "right": 65536, "bottom": 65536}, None),
+        ("exposure", 0, exposure(5000), None),
+        ("channelmixer", 0, {"rows": [[4300, -100, -104], [-50, 4196, -50], [-104, -200, 4400]]}, None),
+        ("tonecurve", 0, {"nodes": curve}, None),
+        ("exposure", 1, exposure(6000), {"opacity": 50000, "mode": "normal", "mask": {"shape": "gradient", "ax": 32768, "ay": 20000, "dx": 300, "dy": 900, "slope": 900}}),
+        ("tonecurve", 1, {"nodes": curve}, {"opacity": 40000, "mode": "screen", "mask": {"shape": "ellipse", "cx": 30000, "cy": 36000, "ux": 900, "uy": 400, "a": 4000, "b": 2500, "feather": 65536}}),
+        ("channelmixer", 1, {"rows": [[4096, 0, 0], [0, 4096, 0], [100, 100, 3896]]}, None),
+        ("exposure", 2, exposure(4200), None),
+        ("tonecurve", 2, {"nodes": curve}, None),
+        ("exposure", 3, exposure(3900), None),
+    ]
+    order = [["rawprepare", 0], ["temperature", 0], ["demosaic", 0]] + [[m, i] for m, i, _, _ in sets[2:]]
+    items = [{"module": m, "instance": i, "params": p, "blend": b} for m, i, p, b in sets]
+    script = {"settings": {"cfa": "RGGB"}, "history": {"items": items, "end": len(items), "order": order}, "steps": []}
+    json.dump(script, open(os.path.join(work, "script.json"), "w"))
+
+
+work = tempfile.mkdtemp()
+try:
+    program = built(work)
+    if words:
+        shutil.copy(words[0], os.path.join(work, "script.json"))
+        shutil.copy(words[1], os.path.join(work, "source.pgm"))
+    else:
+        made(work)
+    times = {}
+    for _ in range(rounds):
+        lines = subprocess.run([program], cwd=work, capture_output=True, text=True, check=True).stdout.split("\n")
+        for l in filter(None, lines):
+            w, h, spent = map(int, l.split())
+            times.setdefault((w, h), []).append(spent)
+    print("%-12s %9s %12s" % ("view", "ms", "ms a MP"))
+    for (w, h), spent in times.items():
+        ms = statistics.median(spent) / 1e6
+        print("%-12s %9.1f %12.1f" % ("%dx%d" % (w, h), ms, ms / (w * h / 1e6)))
+finally:
+    shutil.rmtree(work)
