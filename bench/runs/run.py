@@ -38,11 +38,13 @@ def built(work):
     folder = os.path.join(work, "crates", "run_times")
     os.makedirs(os.path.join(folder, "src"))
     shutil.copy(os.path.join(here, "main.rt.txt"), os.path.join(folder, "src", "main.rt"))
+    os.makedirs(os.path.join(folder, "proofs", "main"))
+    shutil.copy(os.path.join(here, "main.Invariants.antt.txt"), os.path.join(folder, "proofs", "main", "Invariants.antt"))
     open(os.path.join(folder, "stdin"), "w").close()
     log = subprocess.run([os.environ.get("RT", "rt"), "run"], cwd=folder, capture_output=True, text=True)
     program = os.path.join(folder, "out", "run_times")
     if not os.path.exists(program):
-        sys.exit(log.stdout[-3000:] + log.stderr[-1000:])
+        sys.exit(log.stdout[-20000:] + log.stderr[-1000:])
     return program
 
 

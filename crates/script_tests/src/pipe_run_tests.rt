@@ -1,4 +1,5 @@
-ghost use Rattle.std.specs.Prelude.{◌≡◌, ◌<◌};
+ghost use Rattle.std.specs.Prelude.{◌≡◌, ◌<◌, IfOk};
+ghost use Rattle.px.specs.declared.kind.PlaneKind.TheVariants.{Rgb};
 ghost use Rattle.px.specs.Cut.{IsWhole};
 
 use history::{History, Kinds};
@@ -49,6 +50,8 @@ fn shown<R: Threads + Sync, L: Ledger>(
     requires name { blank.name ≡ L.name }
     requires parts { blank.parts ≡ L.parts }
     requires some { 0 < blank.parts }
+    ensures whole { IfOk result (λ shown. IsWhole shown.1) }
+    ensures rgb { IfOk result (λ shown. shown.1.kind ≡ Rgb) }
 {
     let mut steps = Steps::<L>::start(blank);
     let mut nodes = Nodes::empty(alloc);

@@ -91,8 +91,11 @@ fn the_pieces_follow_the_history(rt: HostRuntime) -> Result<(), Fail> {
     commits();
     let alloc = rt.alloc();
     let [first, second, third] = followed::<Brand>(alloc, Blank::new(1))?;
-    assert_eq!(rt; (first.0, first.1.as_slice()), (2, [8192].as_slice()));
-    assert_eq!(rt; (second.0, second.1.as_slice()), (2, [2048].as_slice()));
-    assert_eq!(rt; (third.0, third.1.as_slice()), (3, [4096, 2048].as_slice()));
+    assert_eq!(rt; first.0, 2);
+    assert_eq!(rt; first.1.as_slice(), [8192].as_slice());
+    assert_eq!(rt; second.0, 2);
+    assert_eq!(rt; second.1.as_slice(), [2048].as_slice());
+    assert_eq!(rt; third.0, 3);
+    assert_eq!(rt; third.1.as_slice(), [4096, 2048].as_slice());
     Ok(())
 }
