@@ -9,7 +9,7 @@ use Rattle.params.specs.declared.settings.Params.TheVariants as params
 use Rattle.params.specs.Ranges.{IsWithin}
 use Rattle.px.specs.declared.trace.Trace.{Trace}
 use Rattle.px.specs.Trace.{Traces, TracesWithin}
-use Rattle.px.specs.Area.{Area, HasPixel, IsArea, IsIn, Fits}
+use Rattle.px.specs.Area.{Area, HasPixel, IsArea, IsIn, Fits, Covers, grown}
 use Rattle.geometry.specs.Sides.{IsPixelOf, kept_from, sides_after, mirrored, pixel_before}
 use Rattle.geometry.specs.Behind.{IsTraceOf}
 use Rattle.geometry.specs.Needed.{first_of, swapped, flipped, between, needed, reach, Suffices}
@@ -157,3 +157,72 @@ needed-between p sides out t first last area inside traces to_first to_last is =
     let one = traced-pixel p sides out t out.x out.y first inside traces (first-pixel out area) to_first in
     let other = traced-pixel p sides out t (out.x + out.w - 1) (out.y + out.h - 1) last inside traces (last-pixel out area) to_last in
     sym (is.region ∙ (λ i. between (one i) (other i)))
+
+-- ---- what a part of a region needs
+
+-- a part of a picture of these sides, with at least one pixel
+pub record IsPartOf (sides : ℕ × ℕ) (a : Area) : Type 0 where
+  pub wide : 0 < a.w
+  pub high : 0 < a.h
+  pub inside : IsIn a sides.0 sides.1
+
+grown-part : (out : Area) (by w h : ℕ) → IsPartOf (w, h) out → IsPartOf (w, h) (grown out by w h)
+grown-part out by w h part =
+    record { wide = omega (arith, part.wide, part.inside.across); high = omega (arith, part.high, part.inside.down); inside = record { across = omega (arith, part.wide, part.inside.across); down = omega (arith, part.high, part.inside.down) } }
+
+turned-wide : (swap flip_x flip_y : Bool) (sides : ℕ × ℕ) (out : Area) → 0 < out.w → 0 < out.h → 0 < (flipped flip_x flip_y sides (if swap then swapped out else out)).w
+turned-wide true flip_x flip_y sides out wide high = high
+turned-wide false flip_x flip_y sides out wide high = wide
+
+turned-high : (swap flip_x flip_y : Bool) (sides : ℕ × ℕ) (out : Area) → 0 < out.w → 0 < out.h → 0 < (flipped flip_x flip_y sides (if swap then swapped out else out)).h
+turned-high true flip_x flip_y sides out wide high = wide
+turned-high false flip_x flip_y sides out wide high = high
+
+-- what a part of the output needs is a part of the input
+pub needed-part : (p : Params) (sides : ℕ × ℕ) (out : Area) → IsWithin p → Fits 0 0 sides.0 sides.1 → IsPartOf (sides_after p sides) out → IsPartOf sides (needed p sides out)
+needed-part params.Demosaic sides out within fits part = grown-part out 1 sides.0 sides.1 part
+needed-part (params.BoxBlur b) sides out within fits part = grown-part out b.radius sides.0 sides.1 part
+needed-part (params.Sharpen s) sides out within fits part = grown-part out s.radius sides.0 sides.1 part
+needed-part (params.Orientation o) sides out within fits part = record {
+  wide = turned-wide o.swap o.flip_x o.flip_y sides out part.wide part.high;
+  high = turned-high o.swap o.flip_x o.flip_y sides out part.wide part.high;
+  inside = (traced_area (params.Orientation o) sides out within fits part.wide part.high part.inside refl).inside;
+}
+needed-part (params.Crop c) sides out within fits part = record { wide = part.wide; high = part.high; inside = (traced_area (params.Crop c) sides out within fits part.wide part.high part.inside refl).inside }
+needed-part _ sides out within fits part = part
+
+-- along one axis, flipped
+record IsFlippedPart (flip : Bool) (side a n b m : ℕ) : Type 0 where
+  first : first_of flip side a n ≤ first_of flip side b m
+  last : first_of flip side b m + m ≤ first_of flip side a n + n
+
+flipped_part : (flip : Bool) (side a n b m : ℕ) → a ≤ b → b + m ≤ a + n → IsFlippedPart flip side a n b m
+flipped_part true side a n b m first last = record { first = omega arith; last = omega arith }
+flipped_part false side a n b m first last = record { first = first; last = last }
+
+turned-covers : (swap flip_x flip_y : Bool) (sides : ℕ × ℕ) (a b : Area) → Covers a b → Covers (flipped flip_x flip_y sides (if swap then swapped a else a)) (flipped flip_x flip_y sides (if swap then swapped b else b))
+turned-covers true flip_x flip_y sides a b covers =
+    let columns = flipped_part flip_x sides.0 a.y a.h b.y b.h covers.top covers.bottom in
+    let rows = flipped_part flip_y sides.1 a.x a.w b.x b.w covers.left covers.right in
+    record { left = columns.first; right = columns.last; top = rows.first; bottom = rows.last }
+turned-covers false flip_x flip_y sides a b covers =
+    let columns = flipped_part flip_x sides.0 a.x a.w b.x b.w covers.left covers.right in
+    let rows = flipped_part flip_y sides.1 a.y a.h b.y b.h covers.top covers.bottom in
+    record { left = columns.first; right = columns.last; top = rows.first; bottom = rows.last }
+
+grown-covers : (a b : Area) (by w h : ℕ) → IsPartOf (w, h) a → Covers a b → Covers (grown a by w h) (grown b by w h)
+grown-covers a b by w h outer covers = record {
+  left = omega (arith, covers.left);
+  right = omega (arith, covers.left, covers.right, outer.inside.across);
+  top = omega (arith, covers.top);
+  bottom = omega (arith, covers.top, covers.bottom, outer.inside.down);
+}
+
+-- what a region needs covers what a part of it needs
+pub needed-covers : (p : Params) (sides : ℕ × ℕ) (a b : Area) → IsPartOf (sides_after p sides) a → Covers a b → Covers (needed p sides a) (needed p sides b)
+needed-covers params.Demosaic sides a b outer covers = grown-covers a b 1 sides.0 sides.1 outer covers
+needed-covers (params.BoxBlur p) sides a b outer covers = grown-covers a b p.radius sides.0 sides.1 outer covers
+needed-covers (params.Sharpen p) sides a b outer covers = grown-covers a b p.radius sides.0 sides.1 outer covers
+needed-covers (params.Orientation o) sides a b outer covers = turned-covers o.swap o.flip_x o.flip_y sides a b covers
+needed-covers (params.Crop c) sides a b outer covers = record { left = omega (arith, covers.left); right = omega (arith, covers.right); top = omega (arith, covers.top); bottom = omega (arith, covers.bottom) }
+needed-covers _ sides a b outer covers = covers

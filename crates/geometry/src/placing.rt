@@ -4,7 +4,7 @@ ghost use Rattle.params.specs.Ranges.{IsWithin};
 ghost use Rattle.px.specs.Area.{Fits};
 ghost use Rattle.px.specs.Trace.{Traces};
 ghost use Rattle.geometry.specs.Behind.{IsGeometry, IsBehind};
-ghost use Rattle.geometry.specs.Sides.{IsPixelOf, place_behind};
+ghost use Rattle.geometry.specs.Sides.{IsPixelOf, place_behind, sides_after};
 
 use crate::module_trace::{straight, through, trace_of};
 use crate::sides::roi_out;
@@ -49,7 +49,9 @@ impl Geometry {
     /// One module more, behind those so far. Only orientation and crop change what is known.
     pub fn push(&mut self, params: &Params)
         requires within { IsWithin params.now }
-        ensures { (level : ℕ) (sides : ℕ × ℕ) (modules : List AnyParams) → IsBehind level sides modules self.old → IsBehind level sides (modules ++ params.now ∷ []) self.new }
+        ensures behind { (level : ℕ) (sides : ℕ × ℕ) (modules : List AnyParams) → IsBehind level sides modules self.old → IsBehind level sides (modules ++ params.now ∷ []) self.new }
+        ensures out { self.new.out ≡ sides_after params.now self.old.out }
+        ensures level { self.new.trace.level ≡ self.old.trace.level }
     {
         let (w, h) = self.out;
         self.out = roi_out(params, w, h);

@@ -6,7 +6,7 @@ ghost use Rattle.px.specs.Picture.{Picture};
 ghost use Rattle.modules_raw.specs.Demosaic.{demosaiced_by, demosaiced_picture};
 
 use crate::mosaic_rows::MosaicRows;
-use px::{Cfa, Plane, PlaneKind, Region, paint};
+use px::{Cfa, Plane, PlaneKind, Region, paint, paint_in_turn};
 use std::alloc::{AllocError, Global};
 use std::thread::Threads;
 
@@ -46,6 +46,37 @@ pub fn demosaic<R: Threads + Sync>(
 {
     match input.kind() {
         PlaneKind::Mosaic(cfa) => demosaic_mosaic(rt, alloc, cfa, input, region),
+        PlaneKind::Rgb => input.cut(alloc, region),
+    }
+}
+
+// The same region of a mosaic, its rows one after another.
+fn demosaic_mosaic_in_turn(
+    alloc: Global,
+    cfa: Cfa,
+    input: &Plane,
+    region: Region,
+) -> Result<Plane, AllocError>
+    requires mosaic { input.now.kind ≡ Mosaic cfa }
+    requires inside { IsIn region input.now.w input.now.h }
+    requires covers { Covers input.now.area (grown region 1 input.now.w input.now.h) }
+    ensures area { IfOk result (λ p. p.area ≡ region) }
+    ensures cut { IfOk result (λ p. (q : Picture) → IsCutOf q input.now → IsCutOf (demosaiced_by (Mosaic cfa) q) p) }
+{
+    let (w, h) = input.sides();
+    let painter = MosaicRows { input, cfa, w, h };
+    paint_in_turn(alloc, PlaneKind::Rgb, w, h, region, &painter)
+}
+
+/// The same region, its rows one after another, as a band of a run makes it.
+pub fn demosaic_in_turn(alloc: Global, input: &Plane, region: Region) -> Result<Plane, AllocError>
+    requires inside { IsIn region input.now.w input.now.h }
+    requires covers { Covers input.now.area (grown region 1 input.now.w input.now.h) }
+    ensures area { IfOk result (λ p. p.area ≡ region) }
+    ensures cut { IfOk result (λ p. (q : Picture) → IsCutOf q input.now → IsCutOf (demosaiced_picture q) p) }
+{
+    match input.kind() {
+        PlaneKind::Mosaic(cfa) => demosaic_mosaic_in_turn(alloc, cfa, input, region),
         PlaneKind::Rgb => input.cut(alloc, region),
     }
 }

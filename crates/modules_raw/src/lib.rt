@@ -1,8 +1,7 @@
 //! Sources, their levels, and the modules that make a camera's mosaic a picture.
 //!
 //! Each kernel makes a region of its module's output from a plane that covers what the region needs, and
-//! gives that cut of the output of the whole picture, whatever else the plane holds. Its rows are painted
-//! side by side.
+//! gives that cut of the output of the whole picture, whatever else the plane holds.
 #![tactic(auto)]
 
 mod balancing;
@@ -16,9 +15,9 @@ mod mosaic_rows;
 mod preparing;
 mod source;
 
-pub use balancing::temperature;
-pub use demosaicing::demosaic;
+pub use balancing::{temperature, temperature_in_turn};
+pub use demosaicing::{demosaic, demosaic_in_turn};
 pub use levelling::level;
 pub use levels::{level_of_preview, level_of_thumbnail, level_sides};
-pub use preparing::raw_prepare;
+pub use preparing::{raw_prepare, raw_prepare_in_turn};
 pub use source::Source;

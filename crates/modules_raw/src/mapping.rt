@@ -7,7 +7,7 @@ ghost use Rattle.px.specs.Picture.{Picture};
 ghost use Rattle.modules_raw.specs.Mapped.{mapped};
 
 use crate::channel_map::ChannelMap;
-use px::{Cfa, Plane, PlaneKind, Region, RowPainter, paint};
+use px::{Cfa, Plane, PlaneKind, Region, RowPainter, paint, paint_in_turn};
 use std::alloc::{AllocError, Global};
 use std::thread::Threads;
 
@@ -88,6 +88,29 @@ pub(crate) fn map_region<R: Threads + Sync, M: ChannelMap + Drop + Sync>(
     let (w, h) = input.sides();
     paint(
         rt,
+        alloc,
+        input.kind(),
+        w,
+        h,
+        region,
+        &MappedRows { map, input },
+    )
+}
+
+/// The same region, its rows one after another.
+pub(crate) fn map_in_turn<M: ChannelMap + Drop>(
+    alloc: Global,
+    map: &M,
+    input: &Plane,
+    region: Region,
+) -> Result<Plane, AllocError>
+    requires allows { M.allows map.now }
+    requires covers { Covers input.now.area region }
+    ensures area { IfOk result (λ p. p.area ≡ region) }
+    ensures cut { IfOk result (λ p. (q : Picture) → IsCutOf q input.now → IsCutOf (mapped (M.makes map.now) q) p) }
+{
+    let (w, h) = input.sides();
+    paint_in_turn(
         alloc,
         input.kind(),
         w,

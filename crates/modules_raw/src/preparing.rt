@@ -7,7 +7,7 @@ ghost use Rattle.px.specs.Picture.{Picture};
 ghost use Rattle.modules_raw.specs.Preparing.{prepared_picture};
 
 use crate::channel_map::ChannelMap;
-use crate::mapping::map_region;
+use crate::mapping::{map_in_turn, map_region};
 use params::RawPrepare;
 use px::{Plane, Region, TOP};
 use std::alloc::{AllocError, Global};
@@ -45,4 +45,19 @@ pub fn raw_prepare<R: Threads + Sync>(
     ensures cut { IfOk result (λ p. (q : Picture) → IsCutOf q input.now → IsCutOf (prepared_picture params.now q) p) }
 {
     map_region(rt, alloc, params, input, region)
+}
+
+/// The same region, its rows one after another, as a band of a run makes it.
+pub fn raw_prepare_in_turn(
+    alloc: Global,
+    params: &RawPrepare,
+    input: &Plane,
+    region: Region,
+) -> Result<Plane, AllocError>
+    requires within { IsWithin (raw_params params.now) }
+    requires covers { Covers input.now.area region }
+    ensures area { IfOk result (λ p. p.area ≡ region) }
+    ensures cut { IfOk result (λ p. (q : Picture) → IsCutOf q input.now → IsCutOf (prepared_picture params.now q) p) }
+{
+    map_in_turn(alloc, params, input, region)
 }

@@ -7,6 +7,7 @@ pub mod RunLemmas
 pub mod MakeLemmas
 pub mod PrefixLemmas
 pub mod StageLemmas
+pub mod CourseLemmas
 pub mod SameLemmas
 pub mod ApplyLemmas
 pub mod ScaleLemmas

@@ -50,7 +50,7 @@ run_from-sides source level before (a ∷ later) i =
 pub whole-sides : (source : Picture) (level : ℕ) (actives : List Active) → sides_of (whole source level actives) ≡ sides_behind (settings_of actives) (sides_of (input_of source level))
 whole-sides source level actives = run_from-sides source level [] actives (input_of source level)
 
-settings_of-push : (actives : List Active) (a : Active) → settings_of (actives ++ a ∷ []) ≡ settings_of actives ++ a.params ∷ []
+pub settings_of-push : (actives : List Active) (a : Active) → settings_of (actives ++ a ∷ []) ≡ settings_of actives ++ a.params ∷ []
 settings_of-push actives a = map-append (λ (x : Active). x.params) actives (a ∷ [])
 
 sides_behind-push : (actives : List Active) (a : Active) (sides : ℕ × ℕ) → sides_behind (settings_of (actives ++ a ∷ [])) sides ≡ sides_after a.params (sides_behind (settings_of actives) sides)
@@ -97,7 +97,7 @@ takes-at k [] i a takes within is = absurd (omega arith)
 takes-at k (x ∷ actives) zero a takes within is = subst (λ y. Takes y.params k) (sym is) takes.0
 takes-at k (x ∷ actives) (suc i) a takes within is = takes-at (kind_after k x.params) actives i a takes.1 (omega arith) is
 
-taken : (actives : List Active) (k : ℕ) (a : Active) → k < length actives → a ≡ get_or actives k a → take (k + 1) actives ≡ take k actives ++ a ∷ []
+pub taken : (actives : List Active) (k : ℕ) (a : Active) → k < length actives → a ≡ get_or actives k a → take (k + 1) actives ≡ take k actives ++ a ∷ []
 taken actives k a within is = take_more actives k a within ∙ ap (λ x. take k actives ++ x ∷ []) (sym is)
 
 -- what stands behind the first instances of a run over an input, which is a level of the source
@@ -108,7 +108,7 @@ pub record StandsBehind (level : ℕ) (source input : Cut) (actives : List Activ
   pub cut : (q : Picture) → IsCutOf q source → IsCutOf (input_of q level) input → IsCutOf (whole q level actives) p
 
 -- the plane that stands after one more is the new one where there is one, else the plane that stood
-standing-more : (next made : Option Cut) (source : Cut) → unwrap_or (option_or next made) source ≡ unwrap_or next (unwrap_or made source)
+pub standing-more : (next made : Option Cut) (source : Cut) → unwrap_or (option_or next made) source ≡ unwrap_or next (unwrap_or made source)
 standing-more None made source = refl
 standing-more (Some p) made source = refl
 

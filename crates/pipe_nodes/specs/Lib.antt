@@ -1,7 +1,9 @@
 pub mod Active
 pub mod Actives
 pub mod Applied
+pub mod Course
 pub mod Kinds
+pub mod Piece
 pub mod Prefix
 pub mod SamePrefix
 pub mod Staged

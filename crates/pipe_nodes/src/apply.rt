@@ -10,33 +10,30 @@ ghost use Rattle.modules_colour.specs.Curving.{curved_picture};
 ghost use Rattle.modules_raw.specs.Demosaic.{demosaiced_picture};
 ghost use Rattle.pipe_nodes.specs.Applied.{CanApply, IsApplied};
 
-use modules_colour::CurveTable;
+use crate::piece::Piece;
 use params::{Params, ToneCurve};
 use px::{Plane, PlaneKind, Region};
 use std::alloc::{AllocError, Global};
-use std::thread::Threads;
 
-// A region behind a tone curve, by its table.
-fn tone_curve<R: Threads + Sync>(
-    rt: &R,
+// A region behind a tone curve, by its tables.
+fn tone_curve(
     alloc: Global,
+    piece: &Piece,
     settings: &ToneCurve,
     input: &Plane,
     region: Region,
 ) -> Result<Plane, AllocError>
-    requires within { IsWithin (curve_params settings.now) }
+    requires is { piece.now.params ≡ curve_params settings.now }
     requires rgb { input.now.kind ≡ Rgb }
     requires covers { Covers input.now.area region }
     ensures area { IfOk result (λ p. p.area ≡ region) }
     ensures cut { IfOk result (λ p. (q : Picture) → IsCutOf q input.now → IsCutOf (curved_picture settings.now q) p) }
 {
-    let table = CurveTable::make(alloc, settings)?;
-    modules_colour::curve(rt, alloc, &table, input, region)
+    modules_colour::curve_in_turn(alloc, piece.table(settings), input, region)
 }
 
 // A region of a mosaic made RGB, or none where the input is RGB already.
-fn demosaic<R: Threads + Sync>(
-    rt: &R,
+fn demosaic(
     alloc: Global,
     input: &Plane,
     region: Region,
@@ -49,23 +46,24 @@ fn demosaic<R: Threads + Sync>(
 {
     match input.kind() {
         PlaneKind::Mosaic(_) => {
-            let made = modules_raw::demosaic(rt, alloc, input, region)?;
+            let made = modules_raw::demosaic_in_turn(alloc, input, region)?;
             Ok(Some(made))
         }
         PlaneKind::Rgb => Ok(None),
     }
 }
 
-// A region of what a module by itself makes of its input, a picture of that level, or none where it leaves
-// the input as it is.
-pub(crate) fn apply<R: Threads + Sync>(
-    rt: &R,
+// A region of what a piece's module by itself makes of its input, a picture of that level, or none where it
+// leaves the input as it is.
+pub(crate) fn apply(
     alloc: Global,
+    piece: &Piece,
     params: &Params,
     level: u8,
     input: &Plane,
     region: Region,
 ) -> Result<Option<Plane>, AllocError>
+    requires own { piece.now.params ≡ params.now }
     requires within { IsWithin params.now }
     requires level { level ≤ 8 }
     requires can { CanApply params.now input.now region }
@@ -73,40 +71,40 @@ pub(crate) fn apply<R: Threads + Sync>(
 {
     match params {
         Params::RawPrepare(raw) => {
-            let made = modules_raw::raw_prepare(rt, alloc, raw, input, region)?;
+            let made = modules_raw::raw_prepare_in_turn(alloc, raw, input, region)?;
             Ok(Some(made))
         }
         Params::Temperature(balance) => {
-            let made = modules_raw::temperature(rt, alloc, balance, input, region)?;
+            let made = modules_raw::temperature_in_turn(alloc, balance, input, region)?;
             Ok(Some(made))
         }
-        Params::Demosaic => demosaic(rt, alloc, input, region),
+        Params::Demosaic => demosaic(alloc, input, region),
         Params::Orientation(turn) => {
-            let made = modules_geometry::orientation(rt, alloc, turn, input, region)?;
+            let made = modules_geometry::orientation_in_turn(alloc, turn, input, region)?;
             Ok(Some(made))
         }
         Params::Crop(crop) => {
-            let made = modules_geometry::crop(rt, alloc, crop, input, region)?;
+            let made = modules_geometry::crop_in_turn(alloc, crop, input, region)?;
             Ok(Some(made))
         }
         Params::Exposure(exposure) => {
-            let made = modules_colour::exposure(rt, alloc, exposure, input, region)?;
+            let made = modules_colour::exposure_in_turn(alloc, exposure, input, region)?;
             Ok(Some(made))
         }
         Params::ChannelMixer(mixer) => {
-            let made = modules_colour::mixer(rt, alloc, mixer, input, region)?;
+            let made = modules_colour::mixer_in_turn(alloc, mixer, input, region)?;
             Ok(Some(made))
         }
         Params::ToneCurve(curve) => {
-            let made = tone_curve(rt, alloc, curve, input, region)?;
+            let made = tone_curve(alloc, piece, curve, input, region)?;
             Ok(Some(made))
         }
         Params::BoxBlur(blur) => {
-            let made = local_modules::box_blur(rt, alloc, blur, level, input, region)?;
+            let made = local_modules::box_blur_in_turn(alloc, blur, level, input, region)?;
             Ok(Some(made))
         }
         Params::Sharpen(sharpen) => {
-            let made = local_modules::sharpen(rt, alloc, sharpen, level, input, region)?;
+            let made = local_modules::sharpen_in_turn(alloc, sharpen, level, input, region)?;
             Ok(Some(made))
         }
     }

@@ -4,12 +4,16 @@
 
 mod active;
 mod apply;
+mod bands;
 mod blending;
 mod counting;
+mod course;
 mod gather;
+mod legs;
 mod making;
 mod piece;
 mod prefix;
+mod regions;
 mod render;
 mod run;
 mod scaling;

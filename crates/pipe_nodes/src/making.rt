@@ -3,16 +3,14 @@ ghost use Rattle.std.specs.Prelude.{◌≡◌, ◌≤◌, IfOk, IfSome, IfNone, 
 ghost use Rattle.px.specs.Area.{Covers};
 ghost use Rattle.px.specs.Cut.{IsCutOf};
 ghost use Rattle.px.specs.Picture.{Picture};
-ghost use Rattle.pipe_nodes.specs.Active.{IsFit};
 ghost use Rattle.pipe_nodes.specs.Applied.{CanApply, CanTrace, IsMade};
 
-use crate::active::Active;
 use crate::apply::apply;
 use crate::blending::lay_over;
+use crate::piece::Piece;
 use crate::tracing::Tracing;
 use px::{Plane, Region};
 use std::alloc::{AllocError, Global};
-use std::thread::Threads;
 
 // The plane that was made of a region, or else that region of the input.
 pub(crate) fn made_or_cut(
@@ -32,25 +30,24 @@ pub(crate) fn made_or_cut(
     }
 }
 
-// A region of what a module instance makes of its input, a picture of that level, or none where it leaves
+// A region of what a piece makes of its input, a picture of that level, or none where it leaves
 // the input as it is. `tracing` tells where the input's pixels come from.
-pub(crate) fn make<R: Threads + Sync>(
-    rt: &R,
+pub(crate) fn make(
     alloc: Global,
-    active: &Active,
+    piece: &Piece,
     level: u8,
     tracing: &Tracing,
     input: &Plane,
     region: Region,
 ) -> Result<Option<Plane>, AllocError>
-    requires fit { IsFit active.now }
     requires level { level ≤ 8 }
     requires traces { CanTrace tracing.now (input.now.w, input.now.h) }
-    requires can { CanApply active.now.params input.now region }
-    ensures { IfOk result (IsMade active.now level tracing.now input.now region) }
+    requires can { CanApply piece.now.params input.now region }
+    ensures { IfOk result (IsMade piece.now level tracing.now input.now region) }
 {
+    let active = piece.active();
     prove!(params::check(&active.params).is_ok());
-    let made = apply(rt, alloc, &active.params, level, input, region)?;
+    let made = apply(alloc, piece, &active.params, level, input, region)?;
     match &active.blend {
         None => Ok(made),
         Some(blend) => {

@@ -1,40 +1,36 @@
 //! Pieces at work: a region of what a run makes with one piece more.
 ghost use Rattle.std.specs.Prelude.{◌≡◌, ◌++◌, ◌∷◌, [], IfOk};
 ghost use Rattle.px.specs.Cut.{IsCutOf, picture_of};
-ghost use Rattle.pipe_nodes.specs.Applied.{CanApply, CanTrace, IsTracing};
+ghost use Rattle.pipe_nodes.specs.Applied.{CanApply};
+ghost use Rattle.pipe_nodes.specs.Course.{HasCome};
 ghost use Rattle.pipe_nodes.specs.Whole.{whole};
 
-use crate::making::{made_or_cut, make};
+use crate::bands::run_bands;
+use crate::course::Course;
 use crate::piece::Piece;
 use crate::staged::Staged;
-use crate::tracing::{Tracing, tracing_of};
-use geometry::Geometry;
-use modules_raw::level_sides;
 use px::{Plane, Region};
 use std::alloc::{AllocError, Global};
+use std::slice::from_ref;
 use std::thread::Threads;
 
-// Where the pixels of a stage's picture come from.
-fn stage_tracing(from: &Staged) -> Tracing
-    ensures can { CanTrace result (from.now.plane.w, from.now.plane.h) }
-    ensures tracing { IsTracing (picture_of from.now.source) from.now.prefix.level from.now.prefix.actives (from.now.plane.w, from.now.plane.h) result }
+// How far the run of a stage has come.
+fn stage_course(from: &Staged) -> Course
+    ensures out { result.geometry.out ≡ (from.now.plane.w, from.now.plane.h) }
+    ensures come { HasCome (picture_of from.now.source) from.now.prefix.level from.now.prefix.actives result }
 {
     let prefix = from.prefix();
-    let (w, h) = from.source().plane().sides();
-    let (columns, rows) = level_sides(w, h, prefix.level());
-    let mut geometry = Geometry::start(columns, rows, prefix.level());
+    let mut course = Course::start(from.source(), prefix.level());
     for i in 0..prefix.len() {
-        let params = &prefix.at(i).params;
-        prove!(params::check(params).is_ok());
-        geometry.push(params);
+        course.push(prefix.at(i));
     }
-    tracing_of(from.source(), &geometry)
+    course
 }
 
 impl Piece {
     /// A region of what the run makes with this piece behind the stage. The region lies in the piece's
     /// output picture, the stage covers what it needs, and is RGB unless the piece is of raw preparation,
-    /// temperature or demosaic.
+    /// temperature or demosaic. It is made by bands of rows side by side.
     pub fn render<R: Threads + Sync>(
         &self,
         rt: &R,
@@ -46,17 +42,7 @@ impl Piece {
         ensures area { IfOk result (λ p. p.area ≡ region) }
         ensures cut { IfOk result (λ p. IsCutOf (whole (picture_of from.now.source) from.now.prefix.level (from.now.prefix.actives ++ self.now ∷ [])) p) }
     {
-        let level = from.prefix().level();
-        let tracing = stage_tracing(from);
-        let made = make(
-            rt,
-            alloc,
-            self.active(),
-            level,
-            &tracing,
-            from.plane(),
-            region,
-        )?;
-        made_or_cut(alloc, made, from.plane(), region)
+        let course = stage_course(from);
+        run_bands(rt, alloc, course, from.plane(), from_ref(self), region)
     }
 }

@@ -3,6 +3,8 @@
 #![tactic(auto)]
 
 #[cfg(test)]
+mod band_tests;
+#[cfg(test)]
 mod edit_script_tests;
 #[cfg(test)]
 mod edit_steps_tests;

@@ -22,8 +22,8 @@ invariant_of-self c =
       inside = push-inside c.args.params.now old c.roi_out-self-inside.result c.trace_of.result c.through-self-inside.result c.requires.within c.self.invariant c.roi_out-self-inside.ensures.sides c.trace_of.ensures c.through-self-inside.ensures;
     }
 
-pub returns : goal.returns
-returns c = λ level sides modules behind.
+pub returns-clause-behind : goal.returns-clause-behind
+returns-clause-behind c = λ level sides modules behind.
     let old : GeometrySeen = record { input = c.self.inside.input; out = c.self.inside.out; trace = c.self.inside.trace } in
     push-behind level sides modules c.args.params.now old c.roi_out-self-inside.result c.trace_of.result c.through-self-inside.result c.requires.within c.self.invariant c.roi_out-self-inside.ensures.sides c.trace_of.ensures c.through-self-inside.ensures
     (subst (λ g. IsBehind level sides modules g) (sym c.self.view_is) behind)

@@ -1,0 +1,130 @@
+//! Runs of pieces by bands of rows, side by side. A band goes through all pieces before the next one, in
+//! small planes that stay in a processor's cache.
+ghost use Rattle.std.specs.Prelude.{◌≡◌, ◌<◌, ◌≤◌, IfOk, None, unwrap_or};
+ghost use Rattle.px.specs.Area.{Covers};
+ghost use Rattle.px.specs.Bands.{IsShaped};
+ghost use Rattle.px.specs.Cut.{IsCutOf};
+ghost use Rattle.px.specs.Picture.{Picture};
+ghost use Rattle.pipe_nodes.specs.Course.{CanRun, IsMadeBy, sides_made};
+ghost use Rattle.pipe_nodes.specs.Kinds.{kind_behind};
+
+use crate::course::Course;
+use crate::making::make;
+use crate::piece::Piece;
+use crate::regions::{region_before, shape_made};
+use geometry::roi_out;
+use params::Params;
+use px::{Plane, Region, paint_bands};
+use std::alloc::{AllocError, Global};
+use std::thread::Threads;
+
+// As many pixels of a band as leave two of its planes in a processor's cache.
+const BAND_PIXELS: u32 = 49_152;
+
+// How many rows above and below a module looks at.
+pub(crate) fn reach(params: &Params) -> u32 {
+    match params {
+        Params::BoxBlur(blur) => blur.radius,
+        Params::Sharpen(sharpen) => sharpen.radius,
+        _ => 0,
+    }
+}
+
+// How many rows a band of a leg has at most, where a row has so many columns. A module that looks around
+// begins each band with the rows above it, so there its bands are higher.
+fn band_rows(pieces: &[Piece], columns: u32) -> u32
+    ensures { 0 < result }
+{
+    let around = match pieces.first() {
+        Some(piece) => reach(&piece.active().params).min(64),
+        None => 0,
+    };
+    (BAND_PIXELS / columns.max(1)).max(4 * around).max(1)
+}
+
+// The plane that was made, or else the one before.
+pub(crate) fn standing<'a>(made: &'a Option<Plane>, before: &'a Plane) -> &'a Plane
+    ensures { result.now ≡ unwrap_or made.now before.now }
+{
+    match made {
+        Some(plane) => plane,
+        None => before,
+    }
+}
+
+// A region of the plane that was made, or else of the one before.
+fn narrowed(
+    alloc: Global,
+    made: Option<Plane>,
+    before: &Plane,
+    region: Region,
+) -> Result<Plane, AllocError>
+    requires covers { Covers (unwrap_or made before.now).area region }
+    ensures area { IfOk result (λ p. p.area ≡ region) }
+    ensures cut { IfOk result (λ p. (q : Picture) → IsCutOf q (unwrap_or made before.now) → IsCutOf q p) }
+{
+    match made {
+        Some(plane) => {
+            if plane.region() == region {
+                return Ok(plane);
+            }
+            plane.cut(alloc, region)
+        }
+        None => before.cut(alloc, region),
+    }
+}
+
+// A region of what the pieces make of the plane that was made, or else of the input, one after the other.
+pub(crate) fn run_in_turn(
+    alloc: Global,
+    course: Course,
+    input: &Plane,
+    made: Option<Plane>,
+    pieces: &[Piece],
+    region: Region,
+) -> Result<Plane, AllocError>
+    requires out { course.geometry.out ≡ ((unwrap_or made input.now).w, (unwrap_or made input.now).h) }
+    requires can { CanRun pieces.now (unwrap_or made input.now) region }
+    ensures shaped { IfOk result (IsShaped (kind_behind (unwrap_or made input.now).kind pieces.now) (sides_made pieces.now ((unwrap_or made input.now).w, (unwrap_or made input.now).h)).0 (sides_made pieces.now ((unwrap_or made input.now).w, (unwrap_or made input.now).h)).1 region) }
+    ensures made { IfOk result (IsMadeBy pieces.now course (unwrap_or made input.now)) }
+{
+    let Some((piece, later)) = pieces.split_first() else {
+        return narrowed(alloc, made, input, region);
+    };
+    let active = piece.active();
+    let plane = standing(&made, input);
+    let (w, h) = plane.sides();
+    prove!(params::check(&active.params).is_ok());
+    let (columns, rows) = roi_out(&active.params, w, h);
+    let needed = region_before(later, columns, rows, region);
+    let next = make(alloc, piece, course.level(), &course.tracing(), plane, needed)?;
+    let mut behind = course;
+    behind.push(active);
+    run_in_turn(alloc, behind, input, next.or(made), later, region)
+}
+
+/// A region of what the pieces make of a plane, put together from bands of rows.
+pub(crate) fn run_bands<R: Threads + Sync>(
+    rt: &R,
+    alloc: Global,
+    course: Course,
+    input: &Plane,
+    pieces: &[Piece],
+    region: Region,
+) -> Result<Plane, AllocError>
+    requires out { course.geometry.out ≡ (input.now.w, input.now.h) }
+    requires can { CanRun pieces.now input.now region }
+    ensures shaped { IfOk result (IsShaped (kind_behind input.now.kind pieces.now) (sides_made pieces.now (input.now.w, input.now.h)).0 (sides_made pieces.now (input.now.w, input.now.h)).1 region) }
+    ensures made { IfOk result (IsMadeBy pieces.now course input.now) }
+{
+    let (w, h) = input.sides();
+    let (kind, columns, high) = shape_made(pieces, input.kind(), w, h);
+    let make = |band: Region| -> Result<Plane, AllocError>
+        requires out { course.geometry.out ≡ (input.now.w, input.now.h) }
+        requires can { CanRun pieces.now input.now band }
+        ensures shaped { IfOk result (IsShaped (kind_behind input.entry.now.kind pieces.entry.now) (sides_made pieces.entry.now (input.entry.now.w, input.entry.now.h)).0 (sides_made pieces.entry.now (input.entry.now.w, input.entry.now.h)).1 band) }
+        ensures made { IfOk result (IsMadeBy pieces.entry.now course input.entry.now) }
+    { run_in_turn(alloc, course, input, None, pieces, band) };
+    let rows = band_rows(pieces, region.w);
+    paint_bands(rt, alloc, kind, columns, high, region, rows, make)
+}

@@ -1,0 +1,77 @@
+use history::{Edit, History, Item};
+use modules_raw::Source;
+use params::{BoxBlur, Orientation, Params};
+use pipe_nodes::{Show, Window, shown_bytes};
+use px::Depth;
+use std::alloc::{AllocError, Global};
+use std::test::Fail;
+
+const WHOLE: Show = Show {
+    level: 0,
+    window: Window::Whole,
+    depth: Depth::Eight,
+};
+
+// 16,384 columns and 8 rows. Row y is of samples 30 y.
+fn wide(alloc: Global) -> Result<Vec<u8>, AllocError> {
+    let mut bytes = Vec::new(alloc);
+    bytes.extend_from_slice(b"P5\n16384 8\n255\n")?;
+    for sample in [0, 30, 60, 90, 120, 150, 180, 210] {
+        for _ in 0..16_384 {
+            bytes.push(sample)?;
+        }
+    }
+    Ok(bytes)
+}
+
+// A history of one item.
+fn of_one(alloc: Global, params: Params) -> Result<History, AllocError> {
+    let mut history = History::start(alloc)?;
+    let edit = Edit::Set(Item {
+        instance: 0,
+        enabled: true,
+        params,
+        blend: None,
+    });
+    if history.allowed(&edit).is_ok() {
+        let _ = history.apply(alloc, &edit)?;
+    }
+    Ok(history)
+}
+
+// A band has 3 rows at most here. Each row but the first and the last is the mean of three: itself and
+// those above and below it, which other bands hold.
+#[test]
+fn bands_see_the_rows_round_them(rt: HostRuntime) -> Result<(), Fail> {
+    let alloc = rt.alloc();
+    let source = Source::of(pnm::read(alloc, wide(alloc)?.as_slice(), None)?);
+    let history = of_one(alloc, Params::BoxBlur(BoxBlur { radius: 1 }))?;
+    let (w, h, bytes) = shown_bytes(&rt, alloc, &source, &history, &WHOLE)?;
+    assert_eq!(rt; (w, h), (16_384, 8));
+    let mut firsts = Vec::new(alloc);
+    for y in 0..8 {
+        firsts.push(bytes.get(15 + y * 49_152).copied())?;
+    }
+    let means = [15, 30, 60, 90, 120, 150, 180, 195].map(Some);
+    assert_eq!(rt; firsts.as_slice(), means.as_slice());
+    Ok(())
+}
+
+// Turned, each row is one column of the source.
+#[test]
+fn a_turned_picture_is_made_by_bands_too(rt: HostRuntime) -> Result<(), Fail> {
+    let alloc = rt.alloc();
+    let source = Source::of(pnm::read(alloc, wide(alloc)?.as_slice(), None)?);
+    let turn = Orientation {
+        swap: true,
+        flip_x: false,
+        flip_y: false,
+    };
+    let history = of_one(alloc, Params::Orientation(turn))?;
+    let (w, h, bytes) = shown_bytes(&rt, alloc, &source, &history, &WHOLE)?;
+    assert_eq!(rt; (w, h), (8, 16_384));
+    let row = b"\x00\x00\x00\x1e\x1e\x1e\x3c\x3c\x3c\x5a\x5a\x5a\x78\x78\x78\x96\x96\x96\xb4\xb4\xb4\xd2\xd2\xd2";
+    assert_eq!(rt; bytes.get(15..39), Some(row.as_slice()));
+    assert_eq!(rt; bytes.get(393_207..393_231), Some(row.as_slice()));
+    Ok(())
+}
