@@ -24,7 +24,7 @@ use Rattle.pipe_nodes.specs.Course.{AreEnough, CourseSeen, HasCome, sides_made, 
 use Rattle.pipe_nodes.specs.Kinds.{Takes, AllTake, kind_after, kind_behind}
 use Rattle.pipe_nodes.specs.Whole.{sides_of, settings_of, input_of, after_one, run_from, whole}
 use Rattle.pipe_nodes.specs.Staged.{StagedSeen, IsRight}
-use Rattle.pipe_nodes.proofs.RunLemmas.{itself, made-cut, made-shape, rendered, settings_of-push, taken}
+use Rattle.pipe_nodes.proofs.RunLemmas.{itself, made-cut, made-shape, rendered, settings_of-push, taken, whole-sides}
 use Rattle.pipe_nodes.proofs.StageLemmas.{input-sides, stage-sides}
 
 -- ---- instances behind instances
@@ -238,3 +238,10 @@ level-out source input level out is cut =
 pub last-cut : (level : ℕ) (source input plane o : Cut) (pieces later : List Active) (c d : CourseSeen) → IsLastLeg pieces c input later d plane → ((q : Picture) → IsCutOf q source → HasCome q level [] c)
     → ((q : Picture) → IsCutOf q source → IsCutOf (input_of q level) input) → IsMadeBy later d plane o → (q : Picture) → IsCutOf q source → IsCutOf (whole q level pieces) o
 last-cut level source input plane o pieces later c d last come cut made q own = last.made o made q (input_of q level) level [] (come q own) (cut q own)
+
+-- and has the sides of the whole run
+pub last-sides : (level : ℕ) (source input plane : Cut) (pieces later : List Active) (c d : CourseSeen) → IsLastLeg pieces c input later d plane → ((q : Picture) → IsCutOf q source → IsCutOf (input_of q level) input)
+    → (q : Picture) → IsCutOf q source → sides_made later (plane.w, plane.h) ≡ sides_of (whole q level pieces)
+last-sides level source input plane pieces later c d last cut q own =
+    let seen = cut q own in
+    last.sides ∙ ap (sides_made pieces) (λ x. (seen.wide x, seen.high x)) ∙ sym (whole-sides q level pieces)

@@ -1,12 +1,14 @@
 //! Runs of pieces by bands of rows, side by side. A band goes through all pieces before the next one, in
 //! small planes that stay in a processor's cache.
 ghost use Rattle.std.specs.Prelude.{◌≡◌, ◌<◌, ◌≤◌, IfOk, None, unwrap_or};
+ghost use Rattle.px.specs.declared.kind.PlaneKind.TheVariants.{Rgb};
 ghost use Rattle.px.specs.Area.{Covers};
 ghost use Rattle.px.specs.Bands.{IsShaped};
-ghost use Rattle.px.specs.Cut.{IsCutOf};
+ghost use Rattle.px.specs.Cut.{Cut, IsCutOf, IsWhole};
 ghost use Rattle.px.specs.Picture.{Picture};
+ghost use Rattle.pnm.specs.Pnm.{written};
 ghost use Rattle.pipe_nodes.specs.Course.{CanRun, IsMadeBy, sides_made};
-ghost use Rattle.pipe_nodes.specs.Kinds.{kind_behind};
+ghost use Rattle.pipe_nodes.specs.Kinds.{AllTake, kind_behind};
 
 use crate::course::Course;
 use crate::making::make;
@@ -14,7 +16,7 @@ use crate::piece::Piece;
 use crate::regions::{region_before, shape_made};
 use geometry::roi_out;
 use params::Params;
-use px::{Plane, Region, paint_bands};
+use px::{Depth, Plane, Region, paint_bands};
 use std::alloc::{AllocError, Global};
 use std::thread::Threads;
 
@@ -127,4 +129,36 @@ pub(crate) fn run_bands<R: Threads + Sync>(
     { run_in_turn(alloc, course, input, None, pieces, band) };
     let rows = band_rows(pieces, region.w);
     paint_bands(rt, alloc, kind, columns, high, region, rows, make)
+}
+
+/// The bytes, as a P6 of that depth, of the whole picture that the pieces make of a whole plane, with its
+/// sides. No plane of that picture stands whole.
+pub(crate) fn run_bytes<R: Threads + Sync>(
+    rt: &R,
+    alloc: Global,
+    course: Course,
+    input: &Plane,
+    pieces: &[Piece],
+    depth: Depth,
+) -> Result<(u32, u32, Vec<u8>), AllocError>
+    requires out { course.geometry.out ≡ (input.now.w, input.now.h) }
+    requires whole { IsWhole input.now }
+    requires takes { AllTake input.now.kind pieces.now }
+    requires rgb { kind_behind input.now.kind pieces.now ≡ Rgb }
+    ensures sides { IfOk result (λ made. (made.0, made.1) ≡ sides_made pieces.now (input.now.w, input.now.h)) }
+    ensures bytes { IfOk result (λ made. (q : Picture) → ((o : Cut) → IsMadeBy pieces.now course input.now o → IsCutOf q o) → made.2.items ≡ written q depth) }
+{
+    let (w, h) = input.sides();
+    let (_, columns, high) = shape_made(pieces, input.kind(), w, h);
+    let region = Region::whole(columns, high);
+    prove!(input.region().covers(region_before(pieces, w, h, region)));
+    let make = |band: Region| -> Result<Plane, AllocError>
+        requires out { course.geometry.out ≡ (input.now.w, input.now.h) }
+        requires can { CanRun pieces.now input.now band }
+        ensures shaped { IfOk result (IsShaped (kind_behind input.entry.now.kind pieces.entry.now) (sides_made pieces.entry.now (input.entry.now.w, input.entry.now.h)).0 (sides_made pieces.entry.now (input.entry.now.w, input.entry.now.h)).1 band) }
+        ensures made { IfOk result (IsMadeBy pieces.entry.now course input.entry.now) }
+    { run_in_turn(alloc, course, input, None, pieces, band) };
+    let rows = band_rows(pieces, columns);
+    let bytes = pnm::write_bands(rt, alloc, columns, high, depth, rows, make)?;
+    Ok((columns, high, bytes))
 }

@@ -11,7 +11,7 @@ ghost use Rattle.pipe_nodes.specs.Kinds.{AllTake, IsRun, kind_behind};
 ghost use Rattle.pipe_nodes.specs.Whole.{input_of, whole};
 ghost use Rattle.pipe_nodes.specs.Windows.{CanShow, needed_of, windowed};
 
-use crate::bands::{run_bands, standing};
+use crate::bands::{run_bands, run_bytes, standing};
 use crate::course::Course;
 use crate::gather::actives;
 use crate::legs::run_to_last;
@@ -21,7 +21,7 @@ use crate::show::{Show, Window};
 use crate::windowing::{needed_region, window_of};
 use history::History;
 use modules_raw::{Source, level};
-use px::Plane;
+use px::{Depth, Plane};
 use std::alloc::{AllocError, Global};
 use std::thread::Threads;
 
@@ -110,7 +110,33 @@ pub fn uncached<R: Threads + Sync>(
     }
 }
 
-/// The same picture as the bytes of a P6 of the shown depth, with its sides.
+// The bytes of the whole picture that what is active in a history makes of a level of a source, with its
+// sides.
+fn written_whole<R: Threads + Sync>(
+    rt: &R,
+    alloc: Global,
+    source: &Source,
+    history: &History,
+    level: u8,
+    depth: Depth,
+) -> Result<(u32, u32, Vec<u8>), AllocError>
+    requires level { level ≤ 8 }
+    ensures wide { IfOk result (λ made. (q : Picture) → IsCutOf q source.now → made.0 ≡ (whole q level (actives_of history.now)).w) }
+    ensures high { IfOk result (λ made. (q : Picture) → IsCutOf q source.now → made.1 ≡ (whole q level (actives_of history.now)).h) }
+    ensures bytes { IfOk result (λ made. (q : Picture) → IsCutOf q source.now → made.2.items ≡ written (whole q level (actives_of history.now)) depth) }
+{
+    let pieces = committed(alloc, history)?;
+    let whole = source.plane();
+    let first = level_of(rt, alloc, source, level)?;
+    let input = standing(&first, whole);
+    let course = Course::start(source, level);
+    let last = run_to_last(rt, alloc, course, input, None, &pieces)?;
+    let plane = standing(&last.made, input);
+    run_bytes(rt, alloc, last.course, plane, last.pieces, depth)
+}
+
+/// The same picture as the bytes of a P6 of the shown depth, with its sides. The bytes of a whole picture
+/// are made band by band, so that no plane of it stands whole.
 pub fn shown_bytes<R: Threads + Sync>(
     rt: &R,
     alloc: Global,
@@ -124,7 +150,12 @@ pub fn shown_bytes<R: Threads + Sync>(
     ensures high { IfOk result (λ shown. (q : Picture) → IsCutOf q source.now → shown.1 ≡ (windowed (whole q show.now.level (actives_of history.now)) show.now.window).h) }
     ensures bytes { IfOk result (λ shown. (q : Picture) → IsCutOf q source.now → shown.2.items ≡ written (windowed (whole q show.now.level (actives_of history.now)) show.now.window) show.now.depth) }
 {
-    let plane = uncached(rt, alloc, source, history, show)?;
-    let (w, h) = plane.sides();
-    Ok((w, h, pnm::write(alloc, &plane, show.depth)?))
+    match show.window {
+        Window::Whole => written_whole(rt, alloc, source, history, show.level, show.depth),
+        _ => {
+            let plane = uncached(rt, alloc, source, history, show)?;
+            let (w, h) = plane.sides();
+            Ok((w, h, pnm::write(alloc, &plane, show.depth)?))
+        }
+    }
 }

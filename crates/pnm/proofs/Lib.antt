@@ -7,3 +7,4 @@ pub mod ValueLemmas
 pub mod WordLemmas
 pub mod WrittenLemmas
 pub mod FrontLemmas
+pub mod ByteLemmas

@@ -1,3 +1,4 @@
+pub mod ByteBands
 pub mod Fault
 pub mod Grammar
 pub mod Header

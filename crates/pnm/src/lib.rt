@@ -1,6 +1,7 @@
 //! Netpbm pictures: the bytes of a P5 or P6 read as a plane, and a plane written as the bytes of a P6.
 #![tactic(auto)]
 
+mod banding;
 mod decoding;
 mod fault;
 mod header;
@@ -9,6 +10,7 @@ mod reading;
 mod words;
 mod writing;
 
+pub use banding::write_bands;
 pub use fault::{PnmEnd, PnmFault, PnmKind};
 pub use laws::written_is_read;
 pub use reading::read;
