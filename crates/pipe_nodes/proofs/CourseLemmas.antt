@@ -3,25 +3,21 @@ use Rattle.std.proofs.Common.{◌≡◌, ℕ, ◌≤◌, List, [], ◌∷◌, �
 use Rattle.std.specs.Prelude.{unwrap_or, slice_get}
 use Rattle.std.proofs.lemmas.List.{append_assoc, append-nil, take_all}
 use Rattle.std.proofs.lemmas.Option.{slice_get_within, get_or_from_slice_get}
-use Rattle.params.specs.Ranges.{IsWithin}
 use Rattle.params.specs.declared.settings.Params.{Params}
-use Rattle.params.specs.declared.settings.Params.TheVariants as params
 use Rattle.px.specs.declared.kind.PlaneKind.{PlaneKind}
-use Rattle.px.specs.declared.kind.PlaneKind.TheVariants.{Mosaic, Rgb}
-use Rattle.px.specs.Area.{Area, Covers, Fits, IsArea, IsIn, whole_of}
-use Rattle.px.specs.Bands.{IsShaped, cut_by}
-use Rattle.px.specs.Cut.{Cut, IsCutOf, IsPlane, IsWhole, picture_of}
+use Rattle.px.specs.Area.{Area, Covers, IsArea, IsIn}
+use Rattle.px.specs.Bands.{IsShaped}
+use Rattle.px.specs.Cut.{Cut, IsCutOf, IsWhole, picture_of}
 use Rattle.px.specs.Picture.{Picture}
-use Rattle.geometry.specs.Behind.{GeometrySeen, IsBehind}
-use Rattle.geometry.specs.Needed.{needed}
+use Rattle.geometry.specs.Behind.{IsBehind}
 use Rattle.geometry.specs.Sides.{sides_after, sides_behind}
 use Rattle.geometry.proofs.NeededLemmas.{IsPartOf, needed-part, needed-covers}
 use Rattle.modules_raw.specs.Levels.{level_side}
 use Rattle.pipe_nodes.specs.declared.active.Active.{Active}
 use Rattle.pipe_nodes.specs.declared.tracing.Tracing.{Tracing}
-use Rattle.pipe_nodes.specs.Applied.{CanApply, HasShape, IsMade, IsTracing}
-use Rattle.pipe_nodes.specs.Course.{AreEnough, CourseSeen, HasCome, sides_made, needed_before, AreSound, CanRun, IsMadeBy, IsLastLeg}
-use Rattle.pipe_nodes.specs.Kinds.{Takes, AllTake, kind_after, kind_behind}
+use Rattle.pipe_nodes.specs.Applied.{IsMade, IsTracing}
+use Rattle.pipe_nodes.specs.Course.{CourseSeen, HasCome, sides_made, needed_before, AreSound, CanRun, IsMadeBy, IsLastLeg}
+use Rattle.pipe_nodes.specs.Kinds.{AllTake, kind_after, kind_behind}
 use Rattle.pipe_nodes.specs.Whole.{sides_of, settings_of, input_of, after_one, run_from, whole}
 use Rattle.pipe_nodes.specs.Staged.{StagedSeen, IsRight}
 use Rattle.pipe_nodes.proofs.RunLemmas.{itself, made-cut, made-shape, rendered, settings_of-push, taken, whole-sides}
@@ -53,14 +49,6 @@ all_take-back k [] later takes = takes
 all_take-back k (a ∷ leg) later takes = all_take-back (kind_after k a.params) leg later takes.1
 
 -- ---- how far a run has come
-
-pub come-start : (q : Picture) (source : Cut) (level : ℕ) (sides : ℕ × ℕ) (c : CourseSeen) → IsCutOf q source → c.w ≡ source.w → c.h ≡ source.h → sides ≡ (level_side source.w level, level_side source.h level)
-    → IsBehind level sides [] c.geometry → HasCome q level [] c
-come-start q source level sides c part wide high sides_is behind = record {
-  wide = wide ∙ part.wide;
-  high = high ∙ part.high;
-  behind = subst (λ s. IsBehind level s [] c.geometry) (sides_is ∙ ap (λ n. (level_side n level, level_side source.h level)) part.wide ∙ ap (λ n. (level_side q.w level, level_side n level)) part.high ∙ sym (input-sides q level)) behind;
-}
 
 pub come-more : (q : Picture) (level : ℕ) (before : List Active) (a : Active) (c d : CourseSeen) → c.w ≡ d.w → c.h ≡ d.h
     → ((l : ℕ) (s : ℕ × ℕ) (modules : List Params) → IsBehind l s modules c.geometry → IsBehind l s (modules ++ a.params ∷ []) d.geometry) → HasCome q level before c → HasCome q level (before ++ a ∷ []) d
@@ -101,17 +89,6 @@ can-part actives input region r sound area can covers =
 made-covers : (a : Active) (level : ℕ) (t : Tracing) (p : Cut) (region : Area) (next : Option Cut) → IsMade a level t p region next → Covers (unwrap_or next p).area region
 made-covers a level t p region None made = made.covers
 made-covers a level t p region (Some o) made = subst (λ (b : Area). Covers b region) (sym made.area) (record { left = omega arith; right = omega arith; top = omega arith; bottom = omega arith })
-
--- the first of the pieces can be applied
-pub can-first : (pieces later : List Active) (a : Active) (p : Cut) (region want sides : _) → pieces ≡ a ∷ later → CanRun pieces p region → sides ≡ sides_after a.params (p.w, p.h) → want ≡ needed_before later sides region → IsIn want sides.0 sides.1
-    → CanApply a.params p want
-can-first pieces later a p region want sides is can sides_is want_is inside =
-    let at = subst (λ list. CanRun list p region) is can in
-    record {
-      takes = at.takes.0;
-      inside = subst (λ (s : ℕ × ℕ). IsIn want s.0 s.1) sides_is inside;
-      covers = subst (λ r. Covers p.area (needed a.params (p.w, p.h) r)) (sym (want_is ∙ ap (λ s. needed_before later s region) sides_is)) at.covers;
-    }
 
 -- the others can be run on what it made
 pub can-more : (pieces later : List Active) (a : Active) (level : ℕ) (t : Tracing) (p j : Cut) (next : Option Cut) (want region : Area) (sides : ℕ × ℕ) → pieces ≡ a ∷ later → CanRun pieces p region → sides ≡ sides_after a.params (p.w, p.h)
@@ -166,13 +143,6 @@ pub none-made : (pieces : List Active) (c : CourseSeen) (p o : Cut) → pieces �
 none-made pieces c p o none copy = subst (λ list. IsMadeBy list c p o) (sym none) (λ source i level before come part. copy i part)
 
 -- ---- legs
-
--- a plane that was made over the whole of a picture of these sides is whole
-pub shaped-whole : (kind : PlaneKind) (w h : ℕ) (sides : ℕ × ℕ) (region : Area) (p : Cut) → ◌≡◌ {A = ℕ × ℕ} (w, h) sides → region ≡ whole_of w h → IsShaped kind sides.0 sides.1 region p → IsWhole p
-shaped-whole kind w h sides region p sides_is region_is shaped =
-    let wide : w ≡ p.w = ap (λ s. s.0) sides_is ∙ sym (ap (λ (x : Cut). x.w) shaped) in
-    let high : h ≡ p.h = ap (λ s. s.1) sides_is ∙ sym (ap (λ (x : Cut). x.h) shaped) in
-    ap (λ (x : Cut). x.area) shaped ∙ region_is ∙ ap (λ n. whole_of n h) wide ∙ ap (λ n. whole_of p.w n) high
 
 -- a whole plane can be run for the whole of what comes out
 pub can-whole : (actives : List Active) (input : Cut) (sides : ℕ × ℕ) (region : Area) → AllTake input.kind actives → ◌≡◌ {A = ℕ × ℕ} sides (sides_made actives (input.w, input.h)) → IsIn region sides.0 sides.1

@@ -1,12 +1,12 @@
 -- Lemmas on pictures scaled down.
-use Rattle.std.proofs.Common.{◌≡◌, ℕ, zero, suc, ◌+◌, ◌-◌, ◌*◌, ◌/◌, ◌<◌, ◌≤◌, min, max, List, [], ◌∷◌, slice_index, refl, sym, ap, ◌∙◌, subst, arith}
+use Rattle.std.proofs.Common.{◌≡◌, ℕ, zero, suc, ◌+◌, ◌-◌, ◌*◌, ◌/◌, ◌<◌, ◌≤◌, min, List, [], ◌∷◌, slice_index, refl, sym, ap, ◌∙◌, subst, arith}
 use Rattle.std.proofs.Math.Nat.{mul-le-mul_right}
 use Rattle.std.proofs.lemmas.Nat.{div-add-mod', div_below, mod_below}
 use Rattle.px.specs.declared.kind.PlaneKind.{PlaneKind}
 use Rattle.px.specs.declared.kind.PlaneKind.TheVariants.{Rgb}
 use Rattle.px.specs.declared.view.BoxSize.{BoxSize}
 use Rattle.px.specs.Area.{Area, Covers, HasPixel, IsIn, whole_of}
-use Rattle.px.specs.Cut.{Cut, IsPlane, IsCutOf, IsWhole, value_at}
+use Rattle.px.specs.Cut.{Cut, IsCutOf, IsWhole, value_at}
 use Rattle.px.specs.Means.{part, sum_in, count_in, mean_in}
 use Rattle.px.specs.Painted.{AsksIn, IsPainted}
 use Rattle.px.specs.Picture.{Picture, rgb_of}
@@ -14,7 +14,7 @@ use Rattle.px.specs.Sums.{total}
 use Rattle.px.proofs.PaintedLemmas.{cut_of_rgb}
 use Rattle.px.proofs.SumLemmas.{mean_same, total_ones, total_same}
 use Rattle.modules_raw.specs.Levels.{blocks}
-use Rattle.pipe_nodes.specs.Windows.{CanScale, FitsBox, IsLeastFit, IsScaled, fit_factor, means_at, one_pixel, part_of, scaled, unscaled}
+use Rattle.pipe_nodes.specs.Windows.{CanScale, IsLeastFit, IsScaled, fit_factor, one_pixel, part_of, scaled, unscaled}
 use Rattle.modules_raw.proofs.BlockLemmas.{block_below}
 
 -- ---- counts of blocks

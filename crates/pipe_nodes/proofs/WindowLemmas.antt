@@ -1,13 +1,13 @@
 -- Lemmas on windows.
-use Rattle.std.proofs.Common.{◌≡◌, ℕ, ◌+◌, ◌-◌, ◌*◌, ◌<◌, ◌≤◌, min, refl, sym, ap, ◌∙◌, subst, zero-add, arith}
+use Rattle.std.proofs.Common.{◌≡◌, ℕ, ◌+◌, refl, sym, ap, ◌∙◌, subst, zero-add}
 use Rattle.std.specs.Prelude.{Result, Ok, Err, IfOk}
 use Rattle.px.specs.declared.view.BoxSize.{BoxSize}
 use Rattle.px.specs.declared.view.View.{View}
-use Rattle.px.specs.Area.{Area, Covers, IsIn, whole_of}
+use Rattle.px.specs.Area.{Area, whole_of}
 use Rattle.px.specs.Cut.{Cut, IsCutOf, IsWhole, picture_of}
 use Rattle.px.specs.Picture.{Picture}
 use Rattle.modules_raw.specs.Levels.{blocks}
-use Rattle.pipe_nodes.specs.Windows.{fit_factor, part_of, scaled, shown_area, unscaled}
+use Rattle.pipe_nodes.specs.Windows.{fit_factor, part_of, scaled, shown_area}
 
 -- ---- whole planes
 

@@ -33,11 +33,7 @@ fn tone_curve(
 }
 
 // A region of a mosaic made RGB, or none where the input is RGB already.
-fn demosaic(
-    alloc: Global,
-    input: &Plane,
-    region: Region,
-) -> Result<Option<Plane>, AllocError>
+fn demosaic(alloc: Global, input: &Plane, region: Region) -> Result<Option<Plane>, AllocError>
     requires inside { IsIn region input.now.w input.now.h }
     requires covers { Covers input.now.area (grown region 1 input.now.w input.now.h) }
     ensures area { IfOk result (λ made. IfSome made (λ o. o.area ≡ region)) }

@@ -99,7 +99,14 @@ pub(crate) fn run_in_turn(
     prove!(params::check(&active.params).is_ok());
     let (columns, rows) = roi_out(&active.params, w, h);
     let needed = region_before(later, columns, rows, region);
-    let next = make(alloc, piece, course.level(), &course.tracing(), plane, needed)?;
+    let next = make(
+        alloc,
+        piece,
+        course.level(),
+        &course.tracing(),
+        plane,
+        needed,
+    )?;
     let mut behind = course;
     behind.push(active);
     run_in_turn(alloc, behind, input, next.or(made), later, region)

@@ -17,7 +17,6 @@ use Rattle.pnm.specs.Pnm.{greatest, header, sample_bytes, written}
 use Rattle.pnm.specs.ByteBands.{AreByteBands, IsTextOf, bytes_of}
 use Rattle.pnm.proofs.SampleLemmas.{written_of_whole}
 
-
 pub eight_all : (values bytes : List ℕ) → length values ≡ length bytes → ((i : ℕ) → i < length values → slice_index bytes i ≡ min (slice_index values i) 65535 / 257)
     → bytes ≡ flat_map (sample_bytes Eight) values
 eight_all values bytes len each =

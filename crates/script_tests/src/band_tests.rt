@@ -70,7 +70,8 @@ fn a_turned_picture_is_made_by_bands_too(rt: HostRuntime) -> Result<(), Fail> {
     let history = of_one(alloc, Params::Orientation(turn))?;
     let (w, h, bytes) = shown_bytes(&rt, alloc, &source, &history, &WHOLE)?;
     assert_eq!(rt; (w, h), (8, 16_384));
-    let row = b"\x00\x00\x00\x1e\x1e\x1e\x3c\x3c\x3c\x5a\x5a\x5a\x78\x78\x78\x96\x96\x96\xb4\xb4\xb4\xd2\xd2\xd2";
+    let row =
+        b"\x00\x00\x00\x1e\x1e\x1e\x3c\x3c\x3c\x5a\x5a\x5a\x78\x78\x78\x96\x96\x96\xb4\xb4\xb4\xd2\xd2\xd2";
     assert_eq!(rt; bytes.get(15..39), Some(row.as_slice()));
     assert_eq!(rt; bytes.get(393_207..393_231), Some(row.as_slice()));
     Ok(())

@@ -27,12 +27,12 @@ pub sharpen_in_turn-requires-clause-within : goal.sharpen_in_turn-requires-claus
 sharpen_in_turn-requires-clause-within c = subst IsWithin c.in-Sharpen.is c.requires.within
 
 pub box_blur_in_turn-requires-clause-covers : goal.box_blur_in_turn-requires-clause-covers
-box_blur_in_turn-requires-clause-covers c = 
+box_blur_in_turn-requires-clause-covers c =
     let can = subst (λ p. CanApply p c.args.input.now c.args.region) c.in-BoxBlur.is c.requires.can in
     covers-less c.args.input.now.area c.args.region _ c.in-BoxBlur.blur.radius _ _ (radius-less c.in-BoxBlur.blur.radius c.args.level c.requires.level) can.covers can.inside
 
 pub sharpen_in_turn-requires-clause-covers : goal.sharpen_in_turn-requires-clause-covers
-sharpen_in_turn-requires-clause-covers c = 
+sharpen_in_turn-requires-clause-covers c =
     let can = subst (λ p. CanApply p c.args.input.now c.args.region) c.in-Sharpen.is c.requires.can in
     covers-less c.args.input.now.area c.args.region _ c.in-Sharpen.sharpen.radius _ _ (radius-less c.in-Sharpen.sharpen.radius c.args.level c.requires.level) can.covers can.inside
 

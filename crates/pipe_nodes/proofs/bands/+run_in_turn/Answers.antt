@@ -1,4 +1,4 @@
-use Rattle.std.proofs.Common.{◌≡◌, ℕ, List, [], ◌∷◌, ◌++◌, ap, sym, ◌∙◌, subst, rules, arith}
+use Rattle.std.proofs.Common.{◌≡◌, ℕ, List, [], ◌∷◌, ◌++◌, ap, sym, ◌∙◌, subst, rules}
 use Rattle.std.specs.Prelude.{unwrap_or}
 use Rattle.std.proofs.lemmas.Result.{IfOk-weaker}
 use Rattle.px.specs.Bands.{IsShaped}
@@ -30,10 +30,14 @@ run_in_turn-requires t c =
     let next = c.in_ok-next.next in
     let joined : unwrap_or c.or.result c.args.input.now ≡ unwrap_or next p = ap (λ o. unwrap_or o c.args.input.now) c.or.ensures ∙ standing-more next c.args.made c.args.input.now ∙ ap (unwrap_or next) (sym stood) in
     let sides_is : c.roi_out-columns.result ≡ sides_after a.params (p.w, p.h) = c.roi_out-columns.ensures.sides ∙ ap (sides_after c.active-active.result.now.params) c.sides-w.ensures.sides ∙ ap (λ (y : Active). sides_after y.params (p.w, p.h)) x_is in
-    let out : c.push.new.self.geometry.out ≡ sides_after a.params c.args.course.geometry.out = c.push.ensures.out ∙ ap (λ (y : Active). sides_after y.params c.args.course.geometry.out) x_is in
-    (search rules, (out-more a c.level.result c.tracing.result p _ next c.region_before-needed.result c.args.course.geometry.out c.push.new.self.geometry.out out (c.requires.out ∙ ap (λ (y : Cut). (y.w, y.h)) (sym stood)) joined c.in_ok-next.ensures,
+    let out : c.push.new.self.geometry.out ≡ sides_after a.params c.args.course.geometry.out = c.push.ensures.out ∙ ap (λ (y : Active). sides_after y.params c.args.course.geometry.out) x_is in (
+      search rules,
+      (
+        out-more a c.level.result c.tracing.result p _ next c.region_before-needed.result c.args.course.geometry.out c.push.new.self.geometry.out out (c.requires.out ∙ ap (λ (y : Cut). (y.w, y.h)) (sym stood)) joined c.in_ok-next.ensures,
         can-more c.args.pieces.now later a c.level.result c.tracing.result p _ next c.region_before-needed.result c.args.region c.roi_out-columns.result c.in-Some.ensures.cases.0
-            (subst (λ y. CanRun c.args.pieces.now y c.args.region) (sym stood) c.requires.can) sides_is c.region_before-needed.ensures.region joined c.in_ok-next.ensures))
+            (subst (λ y. CanRun c.args.pieces.now y c.args.region) (sym stood) c.requires.can) sides_is c.region_before-needed.ensures.region joined c.in_ok-next.ensures,
+      ),
+    )
 
 pub returns-clause-shaped : goal.returns-clause-shaped
 returns-clause-shaped t c =

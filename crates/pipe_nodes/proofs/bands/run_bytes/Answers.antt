@@ -13,10 +13,10 @@ write_bands-requires-clause-asks g c κs within = λ r covers.
     let rows = c.shape_made-columns.result.2 in
     let all = whole_of columns rows in
     let need = subst (λ (s : ℕ × ℕ). IsIn (needed_before pieces s all) s.0 s.1) sides
-        (subst (λ a. IsIn (needed_before pieces c.sides-w.result a) c.sides-w.result.0 c.sides-w.result.1) c.whole-region.ensures
-        (subst (λ a. IsIn a c.sides-w.result.0 c.sides-w.result.1) c.region_before.ensures.region c.region_before.ensures.inside)) in
+    (subst (λ a. IsIn (needed_before pieces c.sides-w.result a) c.sides-w.result.0 c.sides-w.result.1) c.whole-region.ensures
+    (subst (λ a. IsIn a c.sides-w.result.0 c.sides-w.result.1) c.region_before.ensures.region c.region_before.ensures.inside)) in
     let can = can-whole pieces input (columns, rows) all c.requires.takes (c.shape_made-columns.ensures.sides ∙ ap (sides_made pieces) sides) (record { across = omega arith; down = omega arith })
-        (whole-covers input (needed_before pieces (input.w, input.h) all) c.requires.whole need) in
+    (whole-covers input (needed_before pieces (input.w, input.h) all) c.requires.whole need) in
     (c.requires.out, can-part pieces input all r (subst (AreSound pieces) sides c.shape_made-columns.ensures.sound) c.shape_made-columns.ensures.valid can covers)
 
 pub returns-clause-bytes : goal.returns-clause-bytes

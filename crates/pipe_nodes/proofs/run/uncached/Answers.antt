@@ -25,9 +25,9 @@ returns-in-Whole-clause-cut g c = λ q own.
     let pieces_are = c.deref.ensures.value ∙ c.in_ok-pieces.ensures.value in
     let last = c.in_ok-last.last in
     let whole_cut = λ (q : Picture) (own : IsCutOf q c.args.source.now). subst (λ list. IsCutOf (whole q level list) c.in_ok-made.made) pieces_are
-        (last-cut level c.args.source.now input (unwrap_or last.made input) c.in_ok-made.made c.deref.result.now last.pieces.now c.start-course.result last.course c.in_ok-last.ensures c.start-course.ensures.come
-        (λ p part. subst (IsCutOf (input_of p level)) input_is (c.in_ok-first.ensures.cut p part))
-        (subst (λ y. IsMadeBy last.pieces.now last.course y c.in_ok-made.made) c.standing-plane.ensures c.in_ok-made.ensures.made) q own) in
+    (last-cut level c.args.source.now input (unwrap_or last.made input) c.in_ok-made.made c.deref.result.now last.pieces.now c.start-course.result last.course c.in_ok-last.ensures c.start-course.ensures.come
+    (λ p part. subst (IsCutOf (input_of p level)) input_is (c.in_ok-first.ensures.cut p part))
+    (subst (λ y. IsMadeBy last.pieces.now last.course y c.in_ok-made.made) c.standing-plane.ensures c.in_ok-made.ensures.made) q own) in
     subst (λ window. IsCutOf (windowed (whole q level (actives_of c.args.history.now)) window) c.in_ok-made.made) (sym c.in-Whole.is) (whole_cut q own)
 
 pub returns-clause-cut : goal.returns-clause-cut
@@ -38,7 +38,7 @@ returns-clause-cut g c =
     let pieces_are = c.deref.ensures.value ∙ c.in_ok-pieces.ensures.value in
     let last = c.in_ok-last.last in
     let whole_cut = λ (q : Picture) (own : IsCutOf q c.args.source.now). subst (λ list. IsCutOf (whole q level list) c.in_ok-made.made) pieces_are
-        (last-cut level c.args.source.now input (unwrap_or last.made input) c.in_ok-made.made c.deref.result.now last.pieces.now c.start-course.result last.course c.in_ok-last.ensures c.start-course.ensures.come
-        (λ p part. subst (IsCutOf (input_of p level)) input_is (c.in_ok-first.ensures.cut p part))
-        (subst (λ y. IsMadeBy last.pieces.now last.course y c.in_ok-made.made) c.standing-plane.ensures c.in_ok-made.ensures.made) q own) in
+    (last-cut level c.args.source.now input (unwrap_or last.made input) c.in_ok-made.made c.deref.result.now last.pieces.now c.start-course.result last.course c.in_ok-last.ensures c.start-course.ensures.come
+    (λ p part. subst (IsCutOf (input_of p level)) input_is (c.in_ok-first.ensures.cut p part))
+    (subst (λ y. IsMadeBy last.pieces.now last.course y c.in_ok-made.made) c.standing-plane.ensures c.in_ok-made.ensures.made) q own) in
     IfOk-weaker c.window_of.result _ _ (λ o cut q own. cut (whole q level (actives_of c.args.history.now)) (whole_cut q own)) c.window_of.ensures.cut

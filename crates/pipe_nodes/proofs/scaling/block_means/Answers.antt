@@ -1,4 +1,4 @@
-use Rattle.std.proofs.Common.{ℕ, ◌*◌, ◌/◌, ◌<◌, ◌≤◌, ◌≡◌, ap, ◌∙◌, arith}
+use Rattle.std.proofs.Common.{ℕ, ◌*◌, ◌<◌, ◌≤◌, ◌≡◌, ap, ◌∙◌, arith}
 use Rattle.px.specs.Area.{Area}
 use Rattle.px.specs.Cut.{value_at}
 use Rattle.pipe_nodes.proofs.ScaleLemmas.{block-some, mean-is, mean-small, three-same, three-top}

@@ -1,4 +1,4 @@
-use Rattle.std.proofs.Common.{ℕ, ◌+◌, ◌*◌, ◌≡◌, ◌≤◌, refl, ap, ◌∙◌, arith}
+use Rattle.std.proofs.Common.{ℕ, ◌+◌, ◌≡◌, ◌≤◌, refl, ◌∙◌, arith}
 use Rattle.px.specs.Cut.{value_at}
 use Rattle.px.specs.Means.{part}
 use Rattle.px.specs.Sums.{total}

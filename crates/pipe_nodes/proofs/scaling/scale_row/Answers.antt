@@ -1,5 +1,4 @@
-use Rattle.std.proofs.Common.{◌≡◌, ◌+◌, ◌-◌, ◌*◌, min, sym, ap, ◌∙◌, subst, arith}
-use Rattle.px.specs.Area.{Area}
+use Rattle.std.proofs.Common.{◌+◌, ◌-◌, ◌*◌, min, ap, ◌∙◌, arith}
 use Rattle.px.proofs.RowLemmas.{row_more, adds_three}
 use Rattle.pipe_nodes.specs.Windows.{IsScaled, means_at}
 use Rattle.pipe_nodes.proofs.ScaleLemmas.{block-is}

@@ -1,4 +1,4 @@
-use Rattle.std.proofs.Common.{◌<◌, arith}
+use Rattle.std.proofs.Common.{arith}
 use Rattle.pipe_nodes.proofs.ScaleLemmas.{least-fit}
 use Rattle.pipe_nodes.proofs.windowing.least_factor.Goals as goal
 
