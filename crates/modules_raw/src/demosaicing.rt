@@ -64,8 +64,14 @@ fn demosaic_mosaic_in_turn(
     ensures cut { IfOk result (λ p. (q : Picture) → IsCutOf q input.now → IsCutOf (demosaiced_by (Mosaic cfa) q) p) }
 {
     let (w, h) = input.sides();
-    let painter = MosaicRows { input, cfa, w, h };
-    paint_in_turn(alloc, PlaneKind::Rgb, w, h, region, &painter)
+    paint_in_turn(
+        alloc,
+        PlaneKind::Rgb,
+        w,
+        h,
+        region,
+        &MosaicRows { input, cfa, w, h },
+    )
 }
 
 /// The same region, its rows one after another, as a band of a run makes it.
