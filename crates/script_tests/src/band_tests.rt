@@ -24,18 +24,29 @@ fn wide(alloc: Global) -> Result<Vec<u8>, AllocError> {
     Ok(bytes)
 }
 
-// A history of one item.
+fn edit(history: &mut History, alloc: Global, edit: Edit) -> Result<(), AllocError> {
+    if history.allowed(&edit).is_ok() {
+        let _ = history.apply(alloc, &edit)?;
+    }
+    Ok(())
+}
+
+// A history of one item, whose instance is added where it isn't there from the start.
 fn of_one(alloc: Global, params: Params) -> Result<History, AllocError> {
     let mut history = History::start(alloc)?;
-    let edit = Edit::Set(Item {
+    let add = Edit::Add {
+        module: params.module(),
+        instance: 0,
+        place: 8,
+    };
+    edit(&mut history, alloc, add)?;
+    let item = Item {
         instance: 0,
         enabled: true,
         params,
         blend: None,
-    });
-    if history.allowed(&edit).is_ok() {
-        let _ = history.apply(alloc, &edit)?;
-    }
+    };
+    edit(&mut history, alloc, Edit::Set(item))?;
     Ok(history)
 }
 
