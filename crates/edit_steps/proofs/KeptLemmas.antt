@@ -1,9 +1,10 @@
 -- Lemmas on scripts and on what is kept of their changes.
 use Rattle.std.proofs.Common.{◌≡◌, ℕ, zero, suc, ◌+◌, ◌-◌, ◌<◌, ◌≤◌, Bool, true, false, cond, ◌||◌, List, [], ◌∷◌, ◌++◌, length, get_or, take, drop, refl, sym, ap, ◌∙◌, subst, arith, append_assoc, Option, Some, None}
-use Rattle.std.specs.Prelude.{slice_range, Err, is_some, map, IfSome}
+use Rattle.std.specs.Prelude.{slice_get, slice_range, Err, is_some, map, IfSome}
 use Rattle.std.specs.List.{list_any}
 use Rattle.std.specs.Option.{option_map_or}
-use Rattle.std.proofs.lemmas.List.{append-nil, take-map, drop-map}
+use Rattle.std.proofs.lemmas.List.{append-nil, take-map, drop-map, take_more}
+use Rattle.std.proofs.lemmas.Option.{slice_get_within, get_or_from_slice_get}
 use Rattle.std.proofs.lemmas.List.Elements.{All-take, All-filter, All-push}
 use Rattle.px.specs.declared.view.View.{View}
 use Rattle.outside.specs.declared.job_name.Pipe.{Pipe}
@@ -18,8 +19,8 @@ use Rattle.edit_steps.specs.Ranges.{IsView, IsStepWithin}
 use Rattle.edit_steps.specs.Changes.{scope_of, is_change, changes_of, Histories, first_histories, histories_behind, histories_after, view_behind, view_after, second_behind, second_after, change_kind, kinds_along, is_top, is_synch, is_remove, kinds_in}
 use Rattle.edit_steps.specs.Pipes.{reaches, concerns}
 use Rattle.edit_steps.specs.Answer.{Judges}
-use Rattle.edit_steps.specs.Faults.{step_fault, next_fault, steps_fault}
-use Rattle.edit_steps.specs.Script.{Recipe, recipe, with_step, IsScript, changes, history_at, view_at, second_at, kinds_between, concerns_between}
+use Rattle.edit_steps.specs.Faults.{step_fault, next_fault, steps_fault, history_fault}
+use Rattle.edit_steps.specs.Script.{Recipe, recipe, with_step, IsScript, changes, history_at, view_at, second_at, kinds_between, concerns_between, behind, moment_of}
 use Rattle.edit_steps.specs.Kept.{kept_as, kept_of, kept_along, IsKept, StandsBehind}
 use Rattle.edit_steps.proofs.ChangeLemmas.{histories_behind-same, histories_after-append, histories_after-same, view_behind-same, view_after-append, view_after-within, second_behind-same, second_after-append, second_after-within, range-kinds_along, take_on}
 use Rattle.edit_steps.proofs.FaultLemmas.{steps_fault-more, steps_fault-push, steps_fault-at, changes-few, AreAllowed, AreAllowed-all}
@@ -227,6 +228,38 @@ pub IsOnTheWay-on : (r : Recipe) (m : ℕ) (hs new_hs : Histories) (s : Step) (r
 IsOnTheWay-on r m hs new_hs s rest left new way behind e =
     let on : IsOnTheWay r m (histories_behind hs s) rest new = record { allowed = way.allowed.1; ends = ap (λ (g : Histories). g.present) (ends-on hs s rest left new e) ∙ way.ends } in
     subst (λ g. IsOnTheWay r m g rest new) (sym behind) on
+
+-- ---- the histories behind the first steps
+
+-- the changes among the first steps leave what the steps leave
+after_take : (hs : Histories) (xs : List Step) (n : ℕ) → histories_after hs (take (length (changes_of (take n xs))) (changes_of xs)) ≡ histories_after hs (take n xs)
+after_take hs [] zero = refl
+after_take hs [] (suc n) = refl
+after_take hs (x ∷ xs) zero = refl
+after_take hs (x ∷ xs) (suc n) =
+    (elim (is_change x) as (λ b. is_change x ≡ b → histories_after hs (take (length (cond b (x ∷ changes_of (take n xs)) (changes_of (take n xs)))) (cond b (x ∷ changes_of xs) (changes_of xs))) ≡ histories_after (histories_behind hs x) (take n xs)) [
+      | true ↦ λ _. after_take (histories_behind hs x) xs n
+      | false ↦ λ other. ap (λ g. histories_after g (take (length (changes_of (take n xs))) (changes_of xs))) (sym (histories_behind-same hs x other)) ∙ after_take (histories_behind hs x) xs n
+    ]) refl
+
+-- the first steps leave the history of their moment
+pub behind-present : (r : Recipe) (n : ℕ) → (behind r n).present ≡ history_at r (moment_of r n)
+behind-present r n = ap (λ (hs : Histories). hs.present) (sym (after_take (first_histories r.settings r.opening) r.steps n))
+
+-- one step more
+pub behind-more : (r : Recipe) (n : ℕ) (s : Step) → slice_get r.steps n ≡ Some s → behind r (n + 1) ≡ histories_behind (behind r n) s
+behind-more r n s stands =
+    let more : take (n + 1) r.steps ≡ take n r.steps ++ s ∷ [] = take_more r.steps n s (slice_get_within r.steps n s stands) ∙ ap (λ y. take n r.steps ++ y ∷ []) (get_or_from_slice_get r.steps n s s stands) in
+    ap (histories_after (first_histories r.settings r.opening)) more ∙ histories_after-append (first_histories r.settings r.opening) (take n r.steps) (s ∷ [])
+
+allowed_at : (hs : Histories) (xs : List Step) (n : ℕ) (s : Step) → AreAllowed hs xs → slice_get xs n ≡ Some s → history_fault (histories_after hs (take n xs)) s ≡ None
+allowed_at hs [] n s allowed stands = absurd cc
+allowed_at hs (x ∷ xs) zero s allowed stands = let same : x ≡ s = cc in ap (history_fault hs) (sym same) ∙ allowed.0
+allowed_at hs (x ∷ xs) (suc n) s allowed stands = allowed_at (histories_behind hs x) xs n s allowed.1 stands
+
+-- each step may follow those before it
+pub behind-allows : (r : Recipe) (n : ℕ) (s : Step) → IsScript r → slice_get r.steps n ≡ Some s → history_fault (behind r n) s ≡ None
+behind-allows r n s script stands = allowed_at (first_histories r.settings r.opening) r.steps n s (AreAllowed-all r.settings r.opening r.steps script.allowed) stands
 
 -- ---- a draft that is filled
 

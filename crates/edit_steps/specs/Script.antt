@@ -9,7 +9,7 @@ use Rattle.history.specs.Stack.{Stack}
 use Rattle.edit_steps.specs.declared.settings.Settings.{Settings}
 use Rattle.edit_steps.specs.declared.step.Step.{Step}
 use Rattle.edit_steps.specs.Ranges.{IsSettings, IsOpening, IsStepWithin}
-use Rattle.edit_steps.specs.Changes.{changes_of, first_histories, histories_after, view_after, second_after, kinds_along, kinds_in}
+use Rattle.edit_steps.specs.Changes.{Histories, changes_of, first_histories, histories_after, view_after, second_after, kinds_along, kinds_in}
 use Rattle.edit_steps.specs.Pipes.{concerns}
 use Rattle.edit_steps.specs.Faults.{steps_fault}
 
@@ -60,3 +60,11 @@ kinds_between r from to = kinds_in (slice_range (kinds_of r) from to)
 -- whether one of the changes from + 1 to `to` concerns the pipe
 abbrev pub concerns_between : Recipe → Pipe → ℕ → ℕ → Bool
 concerns_between r pipe from to = list_any (concerns pipe) (slice_range (changes_of r.steps) from to)
+
+-- the histories behind the first n steps
+abbrev pub behind : Recipe → ℕ → Histories
+behind r n = histories_after (first_histories r.settings r.opening) (take n r.steps)
+
+-- the moment behind the first n steps: how many of them are changes
+abbrev pub moment_of : Recipe → ℕ → ℕ
+moment_of r n = length (changes_of (take n r.steps))

@@ -1,4 +1,4 @@
-ghost use Rattle.std.specs.Prelude.{◌≡◌, ◌≤◌, ◌↔◌, [], length, false, IfOk, IfSome, IsSome};
+ghost use Rattle.std.specs.Prelude.{◌≡◌, ◌+◌, ◌<◌, ◌≤◌, ◌↔◌, [], length, false, slice_get, IfOk, IfSome, IsSome, OnOk, OnErr};
 
 use crate::change::{Change, any_reaches};
 use crate::draft::Draft;
@@ -7,7 +7,7 @@ use crate::judging::follow;
 use crate::kinds::kinds_in;
 use crate::settings::Settings;
 use crate::step::Step;
-use history::{History, Kinds};
+use history::{History, Kind, Kinds};
 use outside::Pipe;
 use px::View;
 use std::alloc::{AllocError, Global};
@@ -41,7 +41,8 @@ impl Script {
     ghost use Rattle.edit_steps.specs.Ranges.{IsSettings, IsOpening, IsStepWithin, IsView};
     ghost use Rattle.std.specs.List.{All};
     ghost use Rattle.edit_steps.specs.Faults.{steps_fault};
-    ghost use Rattle.edit_steps.specs.Script.{recipe, IsScript, changes, history_at, view_at, second_at, kinds_between, concerns_between};
+    ghost use Rattle.edit_steps.specs.Script.{recipe, IsScript, changes, history_at, view_at, second_at, kinds_between, concerns_between, behind, moment_of};
+    ghost use Rattle.edit_steps.specs.Changes.{change_kind};
     ghost use Rattle.edit_steps.specs.Kept.{IsKept};
     ghost use Rattle.edit_steps.specs.Answer.{Judges};
 
@@ -172,13 +173,39 @@ impl Script {
         any_reaches(pipe, &self.changes[from as usize..to as usize])
     }
 
+    /// The histories that the script begins with: its opening history, nothing to undo and nothing to
+    /// redo.
+    pub fn begin(&self, alloc: Global) -> Result<Undo<History>, AllocError>
+        ensures { IfOk result (λ h. h ≡ behind self.now 0) }
+    {
+        let present = self.opening.copy(alloc)?;
+        Undo::new(alloc, present, self.settings.undo_depth)
+    }
+
+    /// Makes the step behind the first `n` ones on the histories that these leave, and says the kind of
+    /// its change. Where memory runs out the histories are as before.
+    pub fn follow(
+        &self,
+        alloc: Global,
+        histories: &mut Undo<History>,
+        n: u32,
+    ) -> Result<Kind, AllocError>
+        requires there { n < length self.now.steps }
+        requires before { histories.old ≡ behind self.now n }
+        ensures behind { OnOk result (histories.new ≡ behind self.now (n + 1)) }
+        ensures present { OnOk result (histories.new.present ≡ history_at self.now (moment_of self.now (n + 1))) }
+        ensures kind { IfOk result (λ kind. IfSome (slice_get self.now.steps n) (λ step. kind ≡ change_kind (behind self.now n) step)) }
+        ensures unchanged { OnErr result (histories.new ≡ histories.old) }
+    {
+        follow(alloc, histories, &self.steps[n as usize])
+    }
+
     /// The history after the first `m` changes.
     pub fn history_at(&self, alloc: Global, m: u32) -> Result<History, AllocError>
         requires { m ≤ changes self.now }
         ensures { IfOk result (λ h. h ≡ history_at self.now m) }
     {
-        let present = self.opening.copy(alloc)?;
-        let mut histories = Undo::new(alloc, present, self.settings.undo_depth)?;
+        let mut histories = self.begin(alloc)?;
         let mut left = m;
         for step in &self.steps {
             if left == 0 {

@@ -8,6 +8,7 @@ ghost use Rattle.pipe_nodes.specs.Applied.{CanApply};
 ghost use Rattle.geometry.specs.Sides.{sides_after};
 ghost use Rattle.pipe_nodes.specs.Kinds.{kind_after};
 ghost use Rattle.pipe_nodes.specs.Prefix.{prefix};
+ghost use Rattle.pipe_nodes.specs.Staged.{IsRight};
 ghost use Rattle.pipe_nodes.specs.Whole.{input_of, whole};
 ghost use Rattle.pipe_nodes.specs.Windows.{CanShow, needed_of, windowed};
 ghost use Rattle.pipe_run.specs.Planned.{sides_at};
@@ -64,6 +65,7 @@ pub fn load<R: Threads + Sync>(
     ensures source { IfOk result (λ s. s.source ≡ arc_value source.now) }
     ensures kind { IfOk result (λ s. s.plane.kind ≡ (input_of (picture_of (arc_value source.now)) level).kind) }
     ensures sides { IfOk result (λ s. (s.plane.w, s.plane.h) ≡ sides_at (arc_value source.now) level) }
+    ensures right { IfOk result IsRight }
 {
     let plane = input(rt, alloc, source, level, ready, region)?;
     let prefix = Prefix::start(alloc, level)?;
@@ -87,6 +89,7 @@ pub fn process<R: Threads + Sync, L: Ledger>(
     ensures source { IfOk result (λ s. s.source ≡ from.now.source) }
     ensures kind { IfOk result (λ s. s.plane.kind ≡ kind_after from.now.plane.kind piece.now.params) }
     ensures sides { IfOk result (λ s. (s.plane.w, s.plane.h) ≡ sides_after piece.now.params (from.now.plane.w, from.now.plane.h)) }
+    ensures right { IfOk result IsRight }
     ensures one { steps.new ≡ (if is_ok result then steps.old + 1 else steps.old) }
 {
     let plane = piece.render(rt, alloc, from, region)?;

@@ -1,19 +1,17 @@
 use Rattle.std.proofs.Common.{◌≡◌, ◌+◌, ◌∷◌, ◌∙◌, suc, drop, sym, ap, subst, cond, arith, drop-cons}
-use Rattle.edit_steps.specs.Changes.{is_change, first_histories}
-use Rattle.edit_steps.specs.Script.{Recipe, recipe}
+use Rattle.edit_steps.specs.Changes.{is_change}
+use Rattle.edit_steps.specs.Script.{Recipe, IsScript}
 use Rattle.edit_steps.proofs.KeptLemmas.{IsOnTheWay, IsOnTheWay-start, IsOnTheWay-on}
 use Rattle.edit_steps.proofs.script.Script.history_at.Goals.{then-is_change, else-is_change}
 use Rattle.edit_steps.proofs.script.Script.history_at.Goals as goal
 
 pub loop-step-init : goal.loop-step-init
 loop-step-init c =
-    let s = c.self.inside in
-    let r = recipe s.settings s.opening s.steps.items in
-    let start = IsOnTheWay-start r c.args.m c.self.invariant.script in
-    let first : c.in_ok-histories.histories ≡ first_histories s.settings s.opening = c.in_ok-histories.ensures ∙ ap (λ h. first_histories s.settings h) c.in_ok-present.ensures in
-    let begun = subst (λ hs. IsOnTheWay r c.args.m hs r.steps c.args.m) (sym first) start in
-    let seen = subst (λ steps. IsOnTheWay r c.args.m c.in_ok-histories.histories steps c.args.m) (sym c.deref-step-items.ensures.value) begun in
-    subst (λ (q : Recipe). IsOnTheWay q c.args.m c.in_ok-histories.histories c.deref-step-items.result.now c.args.m) c.self.view_is seen
+    let r = c.args.self.now in
+    let start = IsOnTheWay-start r c.args.m (subst IsScript c.self.view_is c.self.invariant.script) in
+    let begun = subst (λ hs. IsOnTheWay r c.args.m hs r.steps c.args.m) (sym c.in_ok-histories.ensures) start in
+    let same = ap (λ (x : Recipe). x.steps) (sym c.self.view_is) ∙ sym c.deref-step-items.ensures.value in
+    subst (λ steps. IsOnTheWay r c.args.m c.in_ok-histories.histories steps c.args.m) same begun
 
 pub loop-step-preserved : goal.loop-step-preserved
 loop-step-preserved c =

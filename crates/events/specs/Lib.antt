@@ -1,0 +1,5 @@
+pub mod Words
+pub mod Forms
+pub mod Events
+pub mod Reads
+pub mod Texts

@@ -1,0 +1,11 @@
+pub mod DueLemmas
+pub mod SlotLemmas
+pub mod OwnLemmas
+pub mod AskLemmas
+pub mod PushLemmas
+pub mod NextLemmas
+pub mod LaterLemmas
+pub mod StepLemmas
+pub mod LineLemmas
+pub mod ToldLemmas
+pub mod GoodLemmas
