@@ -1,5 +1,5 @@
 -- Lemmas on what a run asks of the stage cache.
-use Rattle.std.proofs.Common.{◌≡◌, ℕ, zero, suc, ◌+◌, ◌<◌, ◌≤◌, List, [], ◌∷◌, ◌++◌, length, map, get_or, take, drop, slice_get, slice_index, Some, refl, sym, ap, ◌∙◌, arith, add-one}
+use Rattle.std.proofs.Common.{◌≡◌, ℕ, zero, suc, ◌+◌, ◌<◌, List, [], ◌∷◌, ◌++◌, length, map, get_or, take, drop, slice_get, slice_index, Some, refl, sym, ap, ◌∙◌, arith, add-one}
 use Rattle.std.proofs.lemmas.List.{append_assoc, length-append, take_more}
 use Rattle.std.proofs.lemmas.Option.{get_or_from_slice_get, slice_get_read}
 use Rattle.px.specs.Area.{Area}
@@ -56,3 +56,9 @@ asked-more level actives regions i a r p within count is r_is p_is =
     let here : slice_get all i ≡ Some (p, r) = prefixes-get level [] actives (drop 1 regions) i r within region ∙ ap (λ list. Some (prefix level list, r)) more ∙ ap (λ q. Some (q, r)) (sym p_is) in
     let long : length all ≡ length actives = length-prefixes level [] actives (drop 1 regions) (length-behind regions (length actives) count) in
     take_more all i (p, r) (omega (arith, long)) ∙ ap (λ x. take i all ++ x ∷ []) (get_or_from_slice_get all i (p, r) (p, r) here)
+
+-- what is asked, of slices of the run's lists
+pub asked-list : (level : ℕ) (listed all : List Stage) (pieces actives : List Active) (places regions : List Area) → listed ≡ all → all ≡ prefixes level [] pieces (drop 1 places) → pieces ≡ actives → places ≡ regions
+    → listed ≡ prefixes level [] actives (drop 1 regions)
+asked-list level listed all pieces actives places regions is all_is pieces_are places_are =
+    is ∙ all_is ∙ ap (λ l. prefixes level [] l (drop 1 places)) pieces_are ∙ ap (λ l. prefixes level [] actives (drop 1 l)) places_are

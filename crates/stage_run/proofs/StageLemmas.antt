@@ -2,21 +2,21 @@
 use Rattle.std.proofs.Common.{◌≡◌, ℕ, zero, suc, ◌+◌, ◌<◌, ◌≤◌, Bool, true, false, List, [], ◌∷◌, ◌++◌, length, take, drop, slice_get, get_or, Option, Some, None, refl, sym, ap, ◌∙◌, subst, arith, add-one}
 use Rattle.std.proofs.lemmas.List.{length-take}
 use Rattle.std.proofs.lemmas.Option.{slice_get-get_or, slice_get_read, slice_get_within}
-use Rattle.px.specs.Area.{Area, Covers}
+use Rattle.px.specs.Area.{Area}
 use Rattle.px.specs.Cut.{Cut}
 use Rattle.pipe_nodes.specs.declared.active.Active.{Active}
 use Rattle.pipe_nodes.specs.declared.show.Show.{Show}
 use Rattle.pipe_nodes.specs.Applied.{CanApply}
 use Rattle.pipe_nodes.specs.Prefix.{PrefixSeen, prefix}
 use Rattle.pipe_nodes.specs.Staged.{IsRight, StagedSeen}
-use Rattle.std.specs.Prelude.{IfSome, IsSomeAnd}
-use Rattle.pipe_run.specs.Running.{Ends, IsPlan, IsReady, RunsAt}
+use Rattle.std.specs.Prelude.{is_some, IfSome, IsSome, IsSomeAnd}
+use Rattle.pipe_run.specs.Running.{Ends, IsPlan, RunsAt}
 use Rattle.pipe_run.proofs.StageLemmas.{begins, can-next, ends, runs-next}
 use Rattle.stage_cache.specs.Stages.{Stage}
-use Rattle.stage_cache.specs.StageCache.{IsFound, stage_of_staged}
+use Rattle.stage_cache.specs.StageCache.{StageCacheSeen, IsFound, stage_of_staged}
 use Rattle.stage_run.specs.declared.reached.At.{At}
-use Rattle.stage_run.specs.Asked.{prefixes, stages_asked, stage_of}
-use Rattle.stage_run.specs.StageRun.{StageRunSeen, Holds, IsInput, IsStageOf, entry_of, kept_stage, reached, stage_at, stage_run}
+use Rattle.stage_run.specs.Asked.{prefixes, stage_behind}
+use Rattle.stage_run.specs.StageRun.{StageRunSeen, Holds, IsStageOf, entry_of, at_of, stage_run}
 use Rattle.stage_run.proofs.AskedLemmas.{prefixes-get, length-prefixes, behind-first, length-behind}
 
 -- a run's stage, and how many instances it stands behind
@@ -65,7 +65,7 @@ found-stands source show actives regions stages list i s count list_is found =
 
 -- a stage that isn't kept yet is an entry of the run
 entry-at : (source : Cut) (show : Show) (actives : List Active) (regions : List Area) (s : StagedSeen) (n : ℕ) → IsPlan source show.level actives show.window regions → 0 < n → n ≤ length actives
-    → s.prefix ≡ prefix show.level (take n actives) → slice_get regions n ≡ Some s.plane.area → stage_of source show actives n ≡ Some (stage_of_staged s)
+    → s.prefix ≡ prefix show.level (take n actives) → slice_get regions n ≡ Some s.plane.area → stage_behind source show actives n ≡ Some (stage_of_staged s)
 entry-at source show actives regions s zero plan some within prefix_is area = absurd (omega arith)
 entry-at source show actives regions s (suc k) plan some within prefix_is area =
     ap (λ list. slice_get (prefixes show.level [] actives (drop 1 list)) k) (sym plan.regions_are)
@@ -73,13 +73,13 @@ entry-at source show actives regions s (suc k) plan some within prefix_is area =
     ∙ ap (λ p. Some (p, s.plane.area)) (sym prefix_is)
 
 pub entry-is : (source : Cut) (show : Show) (actives : List Active) (regions : List Area) (s : StagedSeen) → IsPlan source show.level actives show.window regions → IsStageOf source show actives regions true s
-    → stage_of source show actives (length s.prefix.actives) ≡ Some (stage_of_staged s)
+    → stage_behind source show actives (length s.prefix.actives) ≡ Some (stage_of_staged s)
 entry-is source show actives regions s plan is =
     entry-at source show actives regions s (length s.prefix.actives) plan (is.some refl) is.within is.runs.prefix_is (is.just refl)
 
 -- runs that differ in their stage
 pub same-run : (source : Cut) (show : Show) (actives : List Active) (staged : Option StagedSeen) (unkept : Bool) (old : StageRunSeen) (was : Option StagedSeen) (kept : Bool) (at : Option At) → stage_run source show actives was kept ≡ old
-    → reached staged unkept ≡ at → stage_run source show actives staged unkept ≡ record old { stage = at }
+    → at_of staged unkept ≡ at → stage_run source show actives staged unkept ≡ record old { stage = at }
 same-run source show actives staged unkept old was kept at old_is at_is =
     ap (λ o. record { source = source; show = show; actives = actives; stage = o }) at_is ∙ ap (λ (r : StageRunSeen). record r { stage = at }) old_is
 
@@ -99,8 +99,8 @@ stage-is source show actives regions staged unkept s h is = subst (λ o. IfSome 
 pub stage-has : (P : At → ℕ → Type 0) (source : Cut) (show : Show) (actives : List Active) (staged : Option StagedSeen) (unkept : Bool) (old : StageRunSeen) (s : StagedSeen) → stage_run source show actives staged unkept ≡ old → staged ≡ Some s
     → IsSomeAnd old.stage (λ a. P a (length old.actives)) → P (record { done = length s.prefix.actives; unkept = unkept }) (length actives)
 stage-has P source show actives staged unkept old s old_is is has =
-    let inner : IsSomeAnd (reached staged unkept) (λ a. P a (length actives)) = subst (λ (r : StageRunSeen). IsSomeAnd r.stage (λ a. P a (length r.actives))) (sym old_is) has in
-    subst (λ o. IsSomeAnd (reached o unkept) (λ a. P a (length actives))) is inner
+    let inner : IsSomeAnd (at_of staged unkept) (λ a. P a (length actives)) = subst (λ (r : StageRunSeen). IsSomeAnd r.stage (λ a. P a (length r.actives))) (sym old_is) has in
+    subst (λ o. IsSomeAnd (at_of o unkept) (λ a. P a (length actives))) is inner
 
 -- the next instance can be applied
 pub can-process : (source : Cut) (show : Show) (actives : List Active) (regions : List Area) (unkept : Bool) (s : StagedSeen) (n : ℕ) (a : Active) (r : Area) → IsPlan source show.level actives show.window regions
@@ -125,9 +125,20 @@ loaded source show actives regions s r plan prefix_is source_is area r_is =
     stands source show actives regions false 0 s (omega arith) (begins source show.level actives regions s r (omega (arith, plan.count)) prefix_is source_is area r_is) (λ h. cc) (λ h. cc)
 
 -- behind all instances it can be shown
-pub all-done : (source : Cut) (show : Show) (actives : List Active) (regions : List Area) (unkept : Bool) (s : StagedSeen) → IsPlan source show.level actives show.window regions → IsStageOf source show actives regions unkept s → IsRight s
-    → length s.prefix.actives ≡ length actives → Ends source show.level actives show.window s
-all-done source show actives regions unkept s plan is right all = ends source show.level actives show.window regions (length s.prefix.actives) s plan is.runs right all
+pub can-finish : (source : Cut) (show : Show) (actives : List Active) (regions : List Area) (staged : Option StagedSeen) (unkept : Bool) (old : StageRunSeen) (s : StagedSeen) → stage_run source show actives staged unkept ≡ old → staged ≡ Some s
+    → Holds source show actives regions staged unkept → IsRight s → IsSomeAnd old.stage (λ a. a.done ≡ length old.actives) → Ends source show.level actives show.window s
+can-finish source show actives regions staged unkept old s old_is is h right done =
+    let all = stage-has (λ a n. a.done ≡ n) source show actives staged unkept old s old_is is done in
+    ends source show.level actives show.window regions (length s.prefix.actives) s h.plan (stage-is source show actives regions staged unkept s h is).runs right all
+
+-- what a cache of the run's source found is the run's
+pub found-in : (source : Cut) (show : Show) (actives : List Active) (regions : List Area) (staged : Option StagedSeen) (unkept : Bool) (old : StageRunSeen) (cache : StageCacheSeen) (list : List Stage) (r : Option (ℕ × StagedSeen)) (i : ℕ) (s : StagedSeen)
+    → stage_run source show actives staged unkept ≡ old → Holds source show actives regions staged unkept → cache.source ≡ old.source → list ≡ prefixes show.level [] actives (drop 1 regions)
+    → IfSome r (λ f. IsFound cache.source cache.stages list f.0 f.1) → r ≡ Some (i, s) → Stands source show actives regions false (i + 1) s
+found-in source show actives regions staged unkept old cache list r i s old_is h of list_is told is =
+    let of_run : cache.source ≡ source = of ∙ sym (ap (λ (o : StageRunSeen). o.source) old_is) in
+    let found : IsFound cache.source cache.stages list i s = subst (λ o. IfSome o (λ f. IsFound cache.source cache.stages list f.0 f.1)) is told in
+    found-stands source show actives regions cache.stages list i s h.plan.count list_is (subst (λ o. IsFound o cache.stages list i s) of_run found)
 
 -- ---- keeping
 
@@ -138,3 +149,11 @@ kept-entry source show actives regions staged unkept old s old_is is h has =
     let yes : unkept ≡ true = stage-has (λ a n. a.unkept ≡ true) source show actives staged unkept old s old_is is has in
     let stage : IsStageOf source show actives regions true s = subst (λ u. IsStageOf source show actives regions u s) yes (stage-is source show actives regions staged unkept s h is) in
     ap entry_of (sym old_is) ∙ ap (λ o. entry_of (stage_run source show actives o unkept)) is ∙ entry-is source show actives regions s h.plan stage
+
+-- a stage that isn't kept yet has an entry
+pub unkept-entry : (source : Cut) (show : Show) (actives : List Active) (regions : List Area) (staged : Option StagedSeen) (unkept : Bool) → Holds source show actives regions staged unkept
+    → IfSome (at_of staged unkept) (λ a. a.unkept ≡ true → IsSome (entry_of (stage_run source show actives staged unkept)))
+unkept-entry source show actives regions None unkept h = tt
+unkept-entry source show actives regions (Some s) unkept h = λ yes.
+    let stage : IsStageOf source show actives regions true s = subst (λ u. IsStageOf source show actives regions u s) yes h.stage in
+    ap is_some (entry-is source show actives regions s h.plan stage)

@@ -23,6 +23,6 @@ abbrev pub stages_asked : Cut → Show → List Active → List Stage
 stages_asked source show actives = prefixes show.level [] actives (drop 1 (regions_of source show actives))
 
 -- the stage behind so many instances as an entry of the cache; there is at least one
-abbrev pub stage_of : Cut → Show → List Active → ℕ → Option Stage
-stage_of source show actives zero = None
-stage_of source show actives (suc k) = slice_get (stages_asked source show actives) k
+abbrev pub stage_behind : Cut → Show → List Active → ℕ → Option Stage
+stage_behind source show actives zero = None
+stage_behind source show actives (suc k) = slice_get (stages_asked source show actives) k

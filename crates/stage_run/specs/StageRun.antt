@@ -11,7 +11,7 @@ use Rattle.stage_cache.specs.declared.kept.Kept.{Kept}
 use Rattle.stage_cache.specs.Stages.{Stage, keep_answer, stages_after_keep}
 use Rattle.stage_cache.specs.StageCache.{StageCacheSeen}
 use Rattle.stage_run.specs.declared.reached.At.{At}
-use Rattle.stage_run.specs.Asked.{regions_of, stages_asked, stage_of}
+use Rattle.stage_run.specs.Asked.{regions_of, stages_asked, stage_behind}
 
 -- the source, what is shown of it, the instances in their order, and how far the run is, once it has a stage
 pub record StageRunSeen : Type 0 where
@@ -24,12 +24,12 @@ abbrev pub stage_at : ℕ → Bool → Option At
 stage_at done unkept = Some (record { done = done; unkept = unkept })
 
 -- how far a stage is
-abbrev pub reached : Option StagedSeen → Bool → Option At
-reached None unkept = None
-reached (Some s) unkept = stage_at (length s.prefix.actives) unkept
+abbrev pub at_of : Option StagedSeen → Bool → Option At
+at_of None unkept = None
+at_of (Some s) unkept = stage_at (length s.prefix.actives) unkept
 
 abbrev pub stage_run : Cut → Show → List Active → Option StagedSeen → Bool → StageRunSeen
-stage_run source show actives staged unkept = record { source = source; show = show; actives = actives; stage = reached staged unkept }
+stage_run source show actives staged unkept = record { source = source; show = show; actives = actives; stage = at_of staged unkept }
 
 -- the stage is one of the run, and covers the region that is planned at its place; where it isn't kept yet, it came from an instance
 -- and has just that region
@@ -82,12 +82,12 @@ on_stage (Some a) = stage_at (a.done + 1) true
 
 -- its stage as an entry of the cache
 abbrev pub entry_of : StageRunSeen → Option Stage
-entry_of r = option_and_then (λ a. stage_of r.source r.show r.actives a.done) r.stage
+entry_of r = option_and_then (λ a. stage_behind r.source r.show r.actives a.done) r.stage
 
--- the stage is kept, or is too large
-abbrev pub kept_stage : Option At → Option At
-kept_stage None = None
-kept_stage (Some a) = stage_at a.done false
+-- the stage once it is kept, or is too large
+abbrev pub kept_at : Option At → Option At
+kept_at None = None
+kept_at (Some a) = stage_at a.done false
 
 -- what the cache answers to the run's entry, and what becomes of it
 pub record IsKept (r : StageRunSeen) (old : StageCacheSeen) (kept : Kept) (new : StageCacheSeen) : Type 0 where

@@ -1,4 +1,4 @@
-ghost use Rattle.std.specs.Prelude.{◌≡◌, ◌+◌, ◌<◌, ◌≤◌, length, slice_get, is_ok, true, false, IfOk, IfSome, IsSomeAnd, OnOk, OnErr, Some, None, if◌then◌else◌};
+ghost use Rattle.std.specs.Prelude.{◌≡◌, ◌+◌, ◌<◌, ◌≤◌, length, slice_get, is_ok, true, false, IfOk, IfSome, IsSome, IsSomeAnd, OnOk, OnErr, Some, None, if◌then◌else◌};
 ghost use Rattle.std.specs.Arc.{arc_value};
 ghost use Rattle.px.specs.Cut.{picture_of};
 ghost use Rattle.pnm.specs.Pnm.{written};
@@ -8,7 +8,7 @@ ghost use Rattle.pipe_nodes.specs.Whole.{whole};
 ghost use Rattle.pipe_nodes.specs.Windows.{CanShow, windowed};
 ghost use Rattle.stage_cache.specs.Stages.{found_index, stages_after_find};
 ghost use Rattle.stage_run.specs.Asked.{regions_of};
-ghost use Rattle.stage_run.specs.StageRun.{IsInput, IsKept, IsStageRun, asked, found_stage, kept_stage, on_stage, stage_at};
+ghost use Rattle.stage_run.specs.StageRun.{IsInput, IsKept, IsStageRun, asked, at_of, entry_of, found_stage, kept_at, on_stage, stage_at};
 
 use crate::gathering::{pieces_of, stages_asked};
 use crate::reached::At;
@@ -45,6 +45,18 @@ impl Model for StageRun {
     ghost view = { λ r. stage_run (arc_value r.source) r.show r.pieces.items r.stage r.unkept };
 
     ghost invariant = { λ r. Holds (arc_value r.source) r.show r.pieces.items r.regions.items r.stage r.unkept };
+}
+
+// How far a stage is, if there is one.
+fn at_of(staged: &Option<Staged>, unkept: bool) -> Option<At>
+    requires few { IfSome staged.now (λ s. length s.prefix.actives ≤ 64) }
+    ensures { result ≡ at_of staged.now unkept }
+{
+    let staged = staged.as_ref()?;
+    Some(At {
+        done: staged.prefix().len() as u32,
+        unkept,
+    })
 }
 
 // Does nothing: a stage holds a region of what its prefix makes of its source.
@@ -101,12 +113,9 @@ impl StageRun {
     pub fn stage(&self) -> Option<At>
         ensures stage { result ≡ self.now.stage }
         ensures valid { IsStageRun self.now }
+        ensures entry { IfSome self.now.stage (λ a. a.unkept ≡ true → IsSome (entry_of self.now)) }
     {
-        let staged = self.stage.as_ref()?;
-        Some(At {
-            done: staged.prefix().len() as u32,
-            unkept: self.unkept,
-        })
+        at_of(&self.stage, self.unkept)
     }
 
     /// The region of its level that it begins with.
@@ -190,7 +199,7 @@ impl StageRun {
         requires unkept { IsSomeAnd self.old.stage (λ a. a.unkept ≡ true) }
         requires source { cache.old.source ≡ self.old.source }
         ensures kept { IfOk result (λ kept. IsKept self.old cache.old kept cache.new) }
-        ensures run { OnOk result (self.new ≡ record self.old { stage = kept_stage self.old.stage }) }
+        ensures run { OnOk result (self.new ≡ record self.old { stage = kept_at self.old.stage }) }
         ensures unchanged { OnErr result (self.new ≡ self.old) }
         ensures cache_unchanged { OnErr result (cache.new ≡ cache.old) }
     {

@@ -1,4 +1,4 @@
-use Rattle.std.proofs.Common.{◌≡◌, ◌<◌, length, true, sym, ap, ◌∙◌, subst, arith}
+use Rattle.std.proofs.Common.{◌≡◌, ◌<◌, length, true, sym, ap, ◌∙◌, subst}
 use Rattle.std.specs.Arc.{arc_value}
 use Rattle.pipe_nodes.specs.Prefix.{PrefixSeen}
 use Rattle.stage_run.proofs.StageLemmas.{can-process, processed, stage-has, stage-is, with-stage}

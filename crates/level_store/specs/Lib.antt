@@ -1,0 +1,4 @@
+pub mod Levels
+pub mod Agreement
+pub mod Passes
+pub mod Planes
