@@ -1,5 +1,6 @@
 #!/usr/bin/env python3
-"""How long a view of a large picture takes, by its size: a run over regions, from plan to window.
+"""How long a view of a large picture takes, by its size: a run over regions, from plan to window, and the last module with the
+window alone.
 
 Usage: bench/runs/run.py [SCRIPT SOURCE] [--rounds N]; wants rt. Without names it makes a mosaic of 24 megapixels and a script with
 fourteen active module instances, two of them blended by masks. It proves and builds the program `main.rt.txt` in a temporary
@@ -28,7 +29,7 @@ def needed(name):
 
 def built(work):
     crates = []
-    for name in ["pipe_run", "pipe_sync", "edit_script"]:
+    for name in ["pipe_run", "pipe_sync", "edit_script", "stage_run"]:
         crates += [it for it in needed(name) if it not in crates]
     for name in crates:
         shutil.copytree(os.path.join(top, "crates", name), os.path.join(work, "crates", name),
@@ -88,11 +89,11 @@ try:
     for _ in range(rounds):
         lines = subprocess.run([program], cwd=work, capture_output=True, text=True, check=True).stdout.split("\n")
         for l in filter(None, lines):
-            w, h, spent = map(int, l.split())
-            times.setdefault((w, h), []).append(spent)
-    print("%-12s %9s %12s" % ("view", "ms", "ms a MP"))
-    for (w, h), spent in times.items():
+            part, w, h, spent = l.split()
+            times.setdefault((part, int(w), int(h)), []).append(int(spent))
+    print("%-12s %-6s %9s %12s" % ("view", "part", "ms", "ms a MP"))
+    for (part, w, h), spent in times.items():
         ms = statistics.median(spent) / 1e6
-        print("%-12s %9.1f %12.1f" % ("%dx%d" % (w, h), ms, ms / (w * h / 1e6)))
+        print("%-12s %-6s %9.1f %12.1f" % ("%dx%d" % (w, h), part, ms, ms / (w * h / 1e6)))
 finally:
     shutil.rmtree(work)
