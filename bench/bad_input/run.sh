@@ -31,7 +31,7 @@ case_of "a script that is no UTF-8" 2 "script refused at step 0: text" develop n
 case_of "a script of 128 nested lists" 2 "script refused at step 0: text" develop deep.json source.ppm out.ppm
 case_of "a step that the history doesn't allow" 2 "script refused at step 2: end past" develop past.json source.ppm out.ppm
 case_of "an event that may not happen" 4 "events refused at event 2: not allowed" stepped script.json source.ppm thrice.json
-case_of "no list of events" 8 "not yet: events" stepped script.json source.ppm script.json
+case_of "no list of events" 4 "events refused at event 0: form" stepped script.json source.ppm script.json
 case_of "a folder as script" 5 "shelf fault: folder" develop folder source.ppm out.ppm
 case_of "a missing script" 5 "shelf fault: missing" develop missing source.ppm out.ppm
 case_of "an OUT that can't be written" 5 "shelf fault: folder" develop script.json source.ppm folder

@@ -1,10 +1,10 @@
 #!/usr/bin/env python3
 """`devcore stepped` over more and more events, on a small picture: the time an event, which is to stay the same.
 
-run.py [--rounds N]: medians of N (5) rounds. Replays that may happen have at most 256 changes. Each lets a run begin anew
-and do all its modules, so with 61 instances of exposure in the opening history there are up to some 17,000 events; longer
-lists are read whole and refused at their second event. Outside the gate. Needs Python 3; the program is built by
-bin/devcore.
+run.py [--rounds N]: medians of N (5) rounds. Three kinds of lists. In the first a worker is overtaken by each of at most
+255 changes, and does all its modules anew. In the second it takes a job, does its first module, keeps the stage and gives
+the job back, again and again. The third is read whole and refused at its second event. Outside the gate. Needs Python 3;
+the program is built by bin/devcore.
 """
 import json, os, sys, tempfile
 
@@ -12,6 +12,7 @@ sys.path.insert(0, os.path.join(os.path.dirname(os.path.abspath(__file__)), ".."
 from program import built, median
 
 CHANGES = [15, 60, 255]
+TAKEN = [1_000, 10_000, 60_000]
 READ = [1_000, 10_000, 60_000]
 INSTANCES = 61
 FRONT = [["rawprepare", 0], ["temperature", 0], ["demosaic", 0]]
@@ -35,6 +36,12 @@ def replay(changes):
     return events + [["publish", 1], ["editor"]]
 
 
+def retaken(count):
+    """A worker that takes a job and gives it back."""
+    cycle = [["take", 1, "full"], ["look", 1], ["load", 1], ["node", 1], ["keep", 1], ["give_back", 1]]
+    return (cycle * (count // len(cycle) + 1))[:count]
+
+
 def put(folder, name, value):
     with open(os.path.join(folder, name), "w") as f:
         json.dump(value, f)
@@ -51,6 +58,11 @@ def main():
             put(folder, "events.json", events)
             took = median(command, folder, 0)
             print("%6d events replayed  %6.1f ms  %5.1f us an event" % (len(events), took * 1e3, took * 1e6 / len(events)))
+        put(folder, "script.json", script(0))
+        for count in TAKEN:
+            put(folder, "events.json", retaken(count))
+            took = median(command, folder, 0)
+            print("%6d events retaken   %6.1f ms  %5.1f us an event" % (count, took * 1e3, took * 1e6 / count))
         for count in READ:
             put(folder, "events.json", [["editor"], ["publish", 1]] + [["editor"]] * (count - 2))
             took = median(command, folder, 4)

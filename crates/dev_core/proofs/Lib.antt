@@ -1,2 +1,4 @@
+pub mod RoomLemmas
+pub mod StandLemmas
 pub mod DeskLemmas
-pub mod OwnLemmas
+pub mod LevelLemmas

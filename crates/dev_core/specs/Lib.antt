@@ -1,7 +1,6 @@
 pub mod Room
+pub mod Shows
 pub mod Subject
 pub mod Jobs
-pub mod Desk
 pub mod Lines
 pub mod DeskState
-pub mod Own

@@ -1,22 +1,20 @@
 ghost use Rattle.std.specs.Prelude.{◌≡◌, ◌≤◌, length};
 ghost use Rattle.std.specs.Arc.{arc_value};
-ghost use Rattle.px.specs.declared.depth.Depth.TheVariants.{Eight};
 ghost use Rattle.edit_steps.specs.Script.{changes, history_at};
 ghost use Rattle.pipe_nodes.specs.Actives.{actives_of};
-ghost use Rattle.pipe_nodes.specs.declared.show.Window.TheVariants.{Whole};
-ghost use Rattle.outside.specs.declared.job_name.JobName.TheVariants.{Pipe as pipe_job};
-ghost use Rattle.dev_core.specs.Jobs.{OfPipe};
+ghost use Rattle.dev_core.specs.Jobs.{OfPipe, IsMomentOf, CanBeShown, job_seen};
+ghost use Rattle.dev_core.specs.Subject.{show_of};
 
+use crate::showing::job_show;
 use crate::subject::Subject;
 use history::History;
-use outside::{JobName, Pipe};
-use pipe_nodes::{Show, Window, active_count};
-use px::Depth;
+use outside::JobName;
+use pipe_nodes::{Show, active_count};
 use std::marker::Model;
 use std::sync::Arc;
 
 /// A job that a worker has taken: which picture it makes, and of which moment. It must be given to the
-/// desk again, by `publish` or `give_back`.
+/// desk again, by `publish`, `finish_ticket` or `give_back`.
 pub struct Job {
     subject: Arc<Subject>,
     name: JobName,
@@ -25,6 +23,7 @@ pub struct Job {
     history: History,
     // How many module instances are active in the history.
     actives: u32,
+    show: Show,
 }
 
 impl Model for Job {
@@ -35,13 +34,13 @@ impl Model for Job {
 
     ghost view = { λ j. record { subject = arc_value j.subject; name = j.name; worker = j.worker; moment = j.moment } };
 
-    ghost use Rattle.dev_core.specs.Jobs.{StandsAt};
+    ghost use Rattle.dev_core.specs.Jobs.{IsJob};
 
-    ghost invariant = { λ j. StandsAt (arc_value j.subject).script j.moment j.history j.actives };
+    ghost invariant = { λ j. IsJob (arc_value j.subject) j.name j.moment j.history j.actives j.show };
 }
 
 impl Job {
-    // The history is the one that stands at the moment.
+    // The history is the one that stands at the moment, and the moment may be the name's.
     pub(crate) fn of(
         subject: Arc<Subject>,
         name: JobName,
@@ -50,10 +49,12 @@ impl Job {
         history: History,
     ) -> Job
         requires moment { moment ≤ changes (arc_value subject).script }
+        requires asked { IsMomentOf (arc_value subject).script name moment }
         requires history { history ≡ history_at (arc_value subject).script moment }
-        ensures { result ≡ record { subject = arc_value subject; name = name; worker = worker; moment = moment } }
+        ensures { result ≡ job_seen (arc_value subject) name worker moment }
     {
         let actives = active_count(&history);
+        let show = show_of(&subject, name, moment);
         Job {
             subject,
             name,
@@ -61,6 +62,7 @@ impl Job {
             moment,
             history,
             actives,
+            show,
         }
     }
 
@@ -76,10 +78,12 @@ impl Job {
         self.worker
     }
 
-    /// The moment that the job shows, at most the number of the script's changes.
+    /// The moment that the job shows, at most the number of the script's changes. A ticket's is the one
+    /// at which it was asked.
     pub fn moment(&self) -> u32
         ensures moment { result ≡ self.now.moment }
         ensures within { result ≤ changes self.now.subject.script }
+        ensures asked { IsMomentOf self.now.subject.script self.now.name result }
     {
         self.moment
     }
@@ -99,15 +103,12 @@ impl Job {
         self.actives
     }
 
-    /// What of the picture is shown: so far all of it, at 8 bits.
-    pub fn show(&self) -> Show
-        ensures { result ≡ record { level = 0; window = Whole; depth = Eight } }
+    /// The level that the job begins with, the window and the depth.
+    pub fn show(&self) -> &Show
+        ensures show { result.now ≡ show_of self.now.subject self.now.name self.now.moment }
+        ensures can_show { CanBeShown result.now }
     {
-        Show {
-            level: 0,
-            window: Window::Whole,
-            depth: Depth::Eight,
-        }
+        &self.show
     }
 
     pub fn subject(&self) -> &Arc<Subject>
@@ -116,23 +117,14 @@ impl Job {
         &self.subject
     }
 
-    // The pipe of a pipe's job.
-    pub(crate) fn pipe(&self) -> Pipe
-        requires { OfPipe self.now.name (λ p. Unit {0}) }
-        ensures { self.now.name ≡ pipe_job result }
-    {
-        match self.name {
-            JobName::Pipe(pipe) => pipe,
-            JobName::Ticket(_) => unreachable!(),
-        }
-    }
-
-    // Sets the moment, with the history that stands at it.
+    // Sets the moment, with the history that stands at it. The job is a pipe's.
     pub(crate) fn begin_anew(&mut self, moment: u32, history: History)
+        requires pipe { OfPipe self.old.name (λ p. Unit {0}) }
         requires moment { moment ≤ changes self.old.subject.script }
         requires history { history ≡ history_at self.old.subject.script moment }
         ensures { self.new ≡ record self.old { moment = moment } }
     {
+        self.show = show_of(&self.subject, self.name, moment);
         self.moment = moment;
         self.actives = active_count(&history);
         self.history = history;
@@ -147,6 +139,17 @@ impl Job {
             moment: _,
             history: _,
             actives: _,
+            show: _,
         } = self;
     }
+}
+
+// What a job shows of its subject at a moment.
+fn show_of(subject: &Subject, name: JobName, moment: u32) -> Show
+    requires { moment ≤ changes subject.now.script }
+    ensures show { result ≡ show_of subject.now name moment }
+    ensures can_show { CanBeShown result }
+{
+    let (w, h) = subject.source().plane().sides();
+    job_show(subject.script(), w, h, name, moment)
 }

@@ -31,8 +31,8 @@ impl Subject {
     }
 
     /// The source picture.
-    pub fn source(&self) -> &Source
-        ensures { result.now ≡ self.now.source }
+    pub fn source(&self) -> &Arc<Source>
+        ensures { arc_value result.now ≡ self.now.source }
     {
         &self.source
     }

@@ -1,3 +1,5 @@
 pub mod ReadLemmas
+pub mod PutLemmas
 pub mod PictureLemmas
 pub mod ReplayLemmas
+pub mod CompleteLemmas

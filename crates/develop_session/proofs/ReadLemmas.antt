@@ -1,6 +1,6 @@
 -- what the front of a file tells of the file
-use Rattle.std.proofs.Common.{◌≡◌, ℕ, List, take, Option, Some, None, Ok, Err, refl, sym, subst, ap, ◌∙◌}
-use Rattle.std.specs.Prelude.{option_map}
+use Rattle.std.proofs.Common.{◌≡◌, ℕ, suc, Bool, true, false, List, [], ◌∷◌, take, Option, Some, None, Result, Ok, Err, refl, sym, subst, ap, ◌∙◌}
+use Rattle.std.specs.Prelude.{option_map, nat_le, if◌then◌else◌, IfSome}
 use Rattle.px.specs.Picture.{Picture}
 use Rattle.edit_steps.specs.declared.fault.ScriptFault.{ScriptFault}
 use Rattle.edit_steps.specs.Script.{Recipe}
@@ -11,9 +11,20 @@ use Rattle.pnm.specs.Fault.{fault_of}
 use Rattle.pnm.specs.Pnm.{IsPicture}
 use Rattle.pnm.proofs.FrontLemmas.{picture-front}
 use Rattle.edit_script.specs.Script.{script_of}
-use Rattle.stepped.specs.declared.event.Event.{Event}
-use Rattle.stepped.specs.EventForms.{events_of}
-use Rattle.develop_session.specs.Files.{HasScript, HasBadScript, HasSource, HasBadSource, HasEvents, HasNoEvents}
+use Rattle.serde_json.specs.Data.{Data, Items, no_items, item}
+use Rattle.serde_json.specs.Find.{as_array}
+use Rattle.json_form.specs.declared.text.TextEnd.{TextEnd}
+use Rattle.json_form.specs.declared.text.TextEnd.TheVariants as texts
+use Rattle.json_form.specs.Text.{text_of}
+use Rattle.events.specs.declared.event.Event.{Event}
+use Rattle.events.specs.declared.fault.EventReason.{EventReason}
+use Rattle.events.specs.declared.fault.EventReason.TheVariants.{TooLong, Text, Form, TooMany, NotAllowed}
+use Rattle.events.specs.declared.fault.EventsFault.{EventsFault}
+use Rattle.events.specs.Forms.{event_of}
+use Rattle.events.specs.Events.{◌>>=◌, fault_at, or_form, or_text, event_at, events_from, list_of, events_of}
+use Rattle.develop_session.specs.declared.status.Status.TheVariants as status
+use Rattle.develop_session.specs.Files.{HasScript, HasBadScript, HasSource, HasBadSource, HasEvents, HasBadEvents}
+use Rattle.develop_session.specs.Failures.{EventsFail}
 
 -- a file whose front was read stands there
 pub record HasFront (name : List ℕ) (fs : Files) (n : ℕ) (front : List ℕ) : Type 0 where
@@ -38,15 +49,74 @@ pub has_bad_script : (name : List ℕ) (fs : Files) (front : List ℕ) (fault : 
 has_bad_script name fs front fault tells e = let file = front_read name fs 4194305 front e in
     record { bytes = file.bytes; stands = file.stands; reads = tells file.bytes file.front_is }
 
-pub has_events : (name : List ℕ) (fs : Files) (front : List ℕ) (events : List Event) → ((text : List ℕ) → take 4194305 text ≡ front → events_of text ≡ Some events)
+pub has_events : (name : List ℕ) (fs : Files) (front : List ℕ) (events : List Event) → ((text : List ℕ) → take 4194305 text ≡ front → events_of text ≡ Ok events)
     → option_map (take 4194305) (held fs name) ≡ Some front → HasEvents name fs events
 has_events name fs front events tells e = let file = front_read name fs 4194305 front e in
     record { bytes = file.bytes; stands = file.stands; reads = tells file.bytes file.front_is }
 
-pub has_no_events : (name : List ℕ) (fs : Files) (front : List ℕ) → ((text : List ℕ) → take 4194305 text ≡ front → events_of text ≡ None)
-    → option_map (take 4194305) (held fs name) ≡ Some front → HasNoEvents name fs
-has_no_events name fs front tells e = let file = front_read name fs 4194305 front e in
+pub has_bad_events : (name : List ℕ) (fs : Files) (front : List ℕ) (fault : EventsFault) → ((text : List ℕ) → take 4194305 text ≡ front → events_of text ≡ Err fault)
+    → option_map (take 4194305) (held fs name) ≡ Some front → HasBadEvents name fault fs
+has_bad_events name fs front fault tells e = let file = front_read name fs 4194305 front e in
     record { bytes = file.bytes; stands = file.stands; reads = tells file.bytes file.front_is }
+
+-- ---- reading events never tells of one that isn't allowed
+
+IsOfReading : {A : Type 0} → Result A EventsFault → Type 0
+IsOfReading (Ok x) = Unit {0}
+IsOfReading (Err fault) = fault.reason ≡ NotAllowed → ⊥
+
+then_read : {A B : Type 0} (r : Result A EventsFault) (next : A → Result B EventsFault) → IsOfReading r → ((x : A) → IsOfReading (next x)) → IsOfReading (r >>= next)
+unfolding IsOfReading
+then_read (Ok x) next here after = after x
+then_read (Err fault) next here after = here
+
+or_form_reads : {A : Type 0} (place : ℕ) (o : Option A) → IsOfReading (or_form place o)
+unfolding IsOfReading
+or_form_reads place None = λ e. cc
+or_form_reads place (Some x) = tt
+
+or_text_reads : (r : Result Data TextEnd) → IsOfReading (or_text r)
+unfolding IsOfReading
+or_text_reads (Ok d) = tt
+or_text_reads (Err texts.TooLong) = λ e. cc
+or_text_reads (Err texts.Text) = λ e. cc
+or_text_reads (Err texts.Memory) = λ e. cc
+
+within_reads : (place : ℕ) (d : Data) (b : Bool) → IsOfReading (if b then or_form place (event_of d) else Err (fault_at place TooMany))
+unfolding IsOfReading
+within_reads place d true = or_form_reads place (event_of d)
+within_reads place d false = λ e. cc
+
+event_at_reads : (place : ℕ) (d : Data) → IsOfReading (event_at place d)
+event_at_reads place d = within_reads place d (nat_le place 65536)
+
+ok_reads : {A : Type 0} (x : A) → IsOfReading (Ok x)
+unfolding IsOfReading
+ok_reads x = tt
+
+events_from_reads : (place : ℕ) (ds : Items) → IsOfReading (events_from place ds)
+events_from_reads place no_items = ok_reads []
+events_from_reads place (item d ds) =
+    then_read (event_at place d) _ (event_at_reads place d) (λ e. then_read (events_from (suc place) ds) _ (events_from_reads (suc place) ds) (λ es. ok_reads (e ∷ es)))
+
+events_of_reads : (bytes : List ℕ) → IsOfReading (events_of bytes)
+events_of_reads bytes = then_read (or_text (text_of bytes)) list_of (or_text_reads (text_of bytes)) (λ d. then_read (or_form 0 (as_array d)) (events_from 1) (or_form_reads 0 (as_array d)) (events_from_reads 1))
+
+reading_never : (bytes : List ℕ) (fault : EventsFault) → events_of bytes ≡ Err fault → fault.reason ≡ NotAllowed → ⊥
+unfolding IsOfReading
+reading_never bytes fault is = subst IsOfReading is (events_of_reads bytes)
+
+-- the fault of reading them is the cause
+pub events_fail : (name bytes : List ℕ) (old : Option Files) (rose : Type 0) (fault : EventsFault) → events_of bytes ≡ Err fault → IfSome old (HasBadEvents name fault)
+    → EventsFail name old rose (status.EventsRefused fault.place fault.reason)
+events_fail name bytes old rose fault is stands = by_reason fault.place fault.reason (reading_never bytes fault is) stands
+  where
+    by_reason : (place : ℕ) (reason : EventReason) → (reason ≡ NotAllowed → ⊥) → IfSome old (HasBadEvents name (record { place = place; reason = reason })) → EventsFail name old rose (status.EventsRefused place reason)
+    by_reason place TooLong never stands = stands
+    by_reason place Text never stands = stands
+    by_reason place Form never stands = stands
+    by_reason place TooMany never stands = stands
+    by_reason place NotAllowed never stands = absurd (never refl)
 
 -- the front of a source is that picture
 pub has_source : (name : List ℕ) (cfa : Option Cfa) (fs : Files) (n : ℕ) (front : List ℕ) (q : Picture) → IsPicture front cfa q → option_map (take n) (held fs name) ≡ Some front → HasSource name cfa fs q

@@ -1,64 +1,64 @@
 -- what a replay makes of its files
-use Rattle.std.proofs.Common.{◌≡◌, ◌↔◌, ℕ, List, [], ◌∷◌, length, refl, ap, sym, subst, ◌∙◌, Option, Some, None, inl, inr, arith}
-use Rattle.std.specs.Prelude.{IsTrue, IfSome}
+use Rattle.std.proofs.Common.{◌≡◌, ℕ, List, [], ◌∷◌, length, refl, ap, sym, subst, ◌∙◌, Option, Some, None, inl, inr, arith}
+use Rattle.std.specs.Prelude.{IfSome, option_and_then}
 use Rattle.outside.specs.Faults.{NoneFalls, Rose}
 use Rattle.outside.specs.Shelf.{Files}
 use Rattle.outside.proofs.FaultLaws.{Rose-wider}
 use Rattle.outside.proofs.Told.{if_both}
-use Rattle.dev_core.specs.Desk.{IsComplete}
+use Rattle.journal.specs.Desk.{start, desk_of, is_complete}
+use Rattle.journal.specs.Lines.{lines}
 use Rattle.dev_core.specs.DeskState.{DeskSeen}
-use Rattle.dev_core.specs.Lines.{lines}
 use Rattle.dev_core.specs.Subject.{SubjectSeen}
-use Rattle.stepped.specs.declared.event.Event.{Event}
-use Rattle.stepped.specs.declared.event.Event.TheVariants.{Editor, Take, Restart, Load, Node, Finish, Publish}
-use Rattle.stepped.specs.Outcome.{OutcomeSeen, outcome_after, run, start_of, AllAllowed}
-use Rattle.stepped.specs.Step.{desk_at}
+use Rattle.events.specs.declared.event.Event.{Event}
+use Rattle.events.specs.declared.fault.EventReason.TheVariants.{TooLong, Text, Form, TooMany, NotAllowed}
+use Rattle.events.specs.declared.fault.EventsFault.{EventsFault}
+use Rattle.stepped.specs.Outcome.{OutcomeSeen, outcome_with, run, start_of}
+use Rattle.stepped.specs.Step.{Next, step}
+use Rattle.stepped.proofs.SubjectLemmas.{step-subject}
 use Rattle.publish.specs.declared.put_end.PutEnd.{PutEnd}
 use Rattle.publish.specs.declared.put_end.PutEnd.TheVariants.{Fault, Memory}
 use Rattle.publish.specs.Files.{Put, RoseAt, ArePut, AreCutShort, files, desk_files}
 use Rattle.publish.proofs.PutLemmas.{put_fails_since}
 use Rattle.develop_session.specs.declared.tally.Tally.{Tally}
 use Rattle.develop_session.specs.Words.{Replay}
-use Rattle.develop_session.specs.declared.status.Input.TheVariants as input
 use Rattle.develop_session.specs.declared.status.Status.{Status}
 use Rattle.develop_session.specs.declared.status.Status.TheVariants as status
-use Rattle.develop_session.specs.Files.{HasEvents, HasNoEvents}
+use Rattle.develop_session.specs.Files.{HasEvents, HasBadEvents}
 use Rattle.develop_session.specs.Failures.{put_status, EventsFail, Tells}
-use Rattle.develop_session.specs.Replay.{HasSubject, HasSomeSubject, HasReplay, IsTally, IsReplayed, IsCutShort, outcome_of, files_of}
+use Rattle.develop_session.specs.Replay.{HasSubject, HasSomeSubject, HasReplay, Leave, IsTally, IsReplayed, IsCutShort, files_of}
 use Rattle.develop_session.specs.Replies.{Declines, Replies}
 use Rattle.develop_session.specs.Texts.{refusal_text}
 
--- an event leaves the subject
-step_subject : (o : OutcomeSeen) (e : Event) → (outcome_after o e).core.subject ≡ o.core.subject
-step_subject o Editor = refl
-step_subject o (Take w p) = refl
-step_subject o (Restart w) = refl
-step_subject o (Load w) = refl
-step_subject o (Node w) = refl
-step_subject o (Finish w) = refl
-step_subject o (Publish w) = refl
+-- the events leave the subject
+by_next : (o : OutcomeSeen) (e : Event) (es : List Event) (new : OutcomeSeen) → ((x : OutcomeSeen) → run x es ≡ Some new → new.core.subject ≡ x.core.subject)
+    → (n : Next) → step o.core e ≡ n → option_and_then (λ next. run (outcome_with o e next) es) n ≡ Some new → new.core.subject ≡ o.core.subject
+by_next o e es new rest None none later = absurd cc
+by_next o e es new rest (Some next) some later = rest (outcome_with o e next) later ∙ step-subject o.core e next some
 
-run_subject : (o : OutcomeSeen) (es : List Event) → (run o es).core.subject ≡ o.core.subject
-run_subject o [] = refl
-run_subject o (e ∷ es) = run_subject (outcome_after o e) es ∙ step_subject o e
+some_is : (x y : OutcomeSeen) → Some x ≡ Some y → x ≡ y
+some_is x y e = cc
 
-outcome_subject : (s : SubjectSeen) (es : List Event) → (outcome_of s es).core.subject ≡ s
-outcome_subject s es = run_subject (start_of s) es
+run_subject : (o : OutcomeSeen) (es : List Event) (new : OutcomeSeen) → run o es ≡ Some new → new.core.subject ≡ o.core.subject
+run_subject o [] new is = ap (λ (x : OutcomeSeen). x.core.subject) (sym (some_is o new is))
+run_subject o (e ∷ es) new is = by_next o e es new (λ x h. run_subject x es new h) (step o.core e) refl is
+
+left_subject : (s : SubjectSeen) (es : List Event) (o : OutcomeSeen) → Leave s es o → o.core.subject ≡ s
+left_subject s es o left = run_subject (start_of s) es o left
 
 -- the files of the desk that the events leave
-outcome_files : (s : SubjectSeen) (es : List Event) (d : DeskSeen) → d.subject ≡ (outcome_of s es).core.subject → d.journal ≡ (outcome_of s es).core.journal → desk_files d ≡ files_of s es
-outcome_files s es d subject journal =
-    ap (λ x. files x (lines x.script d.journal)) (subject ∙ outcome_subject s es) ∙ ap (λ x. files s (lines s.script x)) journal
+left_files : (s : SubjectSeen) (es : List Event) (o : OutcomeSeen) (d : DeskSeen) → Leave s es o → d.subject ≡ o.core.subject → d.journal ≡ o.core.journal → desk_files d ≡ files_of s o
+left_files s es o d left subject journal =
+    ap (λ (x : SubjectSeen). files x (lines x.script d.journal)) (subject ∙ left_subject s es o left) ∙ ap (λ x. files s (lines s.script x)) journal
 
 -- the tally of the desk that the events leave
-outcome_tally : (s : SubjectSeen) (es : List Event) (o : OutcomeSeen) (t : Tally) → o ≡ outcome_of s es → t.events ≡ length es → t.lines ≡ length (lines o.core.subject.script o.core.journal)
-    → (IsTrue t.complete ↔ IsComplete o.core.subject.script (desk_at o.core)) → IsTally s es t
-outcome_tally s es o t is events lines_are complete =
-    let script = ap (λ x. x.core.subject.script) is ∙ ap (λ x. x.script) (outcome_subject s es) in
+left_tally : (s : SubjectSeen) (es : List Event) (o : OutcomeSeen) (t : Tally) → Leave s es o → t.events ≡ length es → t.lines ≡ length (lines o.core.subject.script o.core.journal)
+    → t.complete ≡ is_complete o.core.subject.script (desk_of start o.core.journal) → IsTally s es o t
+left_tally s es o t left events lines_are complete =
+    let script = ap (λ (x : SubjectSeen). x.script) (left_subject s es o left) in
     record {
       events_are = events;
-      lines_are = lines_are ∙ ap (λ x. length (lines x o.core.journal)) script ∙ ap (λ x. length (lines s.script x.core.journal)) is;
-      all_done = subst (λ (x : OutcomeSeen). IsTrue t.complete ↔ IsComplete s.script (desk_at x.core)) is (subst (λ x. IsTrue t.complete ↔ IsComplete x (desk_at o.core)) script complete);
+      lines_are = lines_are ∙ ap (λ x. length (lines x o.core.journal)) script;
+      all_done = complete ∙ ap (λ x. is_complete x (desk_of start o.core.journal)) script;
     }
 
 both_stand : (c : Replay) (s : SubjectSeen) (es : List Event) (old later : Option Files) → later ≡ old → IfSome old (λ fs. HasSubject c fs s) → IfSome later (λ fs. HasEvents c.events fs es)
@@ -67,20 +67,19 @@ both_stand c s es old later same subject events = if_both old later same subject
 
 -- what was read and put, and the tally
 pub is_replayed : (c : Replay) (s : SubjectSeen) (es : List Event) (o : OutcomeSeen) (d : DeskSeen) (old later latest new : Option Files) (t : Tally) → later ≡ old → latest ≡ later
-    → IfSome old (λ fs. HasSubject c fs s) → IfSome later (λ fs. HasEvents c.events fs es) → AllAllowed (start_of s) es → o ≡ outcome_of s es
+    → IfSome old (λ fs. HasSubject c fs s) → IfSome later (λ fs. HasEvents c.events fs es) → Leave s es o
     → d.subject ≡ o.core.subject → d.journal ≡ o.core.journal → ArePut (desk_files d) latest new
-    → t.events ≡ length es → t.lines ≡ length (lines o.core.subject.script o.core.journal) → (IsTrue t.complete ↔ IsComplete o.core.subject.script (desk_at o.core))
+    → t.events ≡ length es → t.lines ≡ length (lines o.core.subject.script o.core.journal) → t.complete ≡ is_complete o.core.subject.script (desk_of start o.core.journal)
     → IsReplayed c old new t
-is_replayed c s es o d old later latest new t same again subject events allowed is d_subject d_journal put t_events t_lines t_complete =
-    let whole = outcome_files s es d (d_subject ∙ ap (λ x. x.core.subject) is) (d_journal ∙ ap (λ x. x.core.journal) is) in
-    record {
-      subject = s;
-      events = es;
-      stands = both_stand c s es old later same subject events;
-      allowed = allowed;
-      tally = outcome_tally s es o t is t_events t_lines t_complete;
-      put = subst (λ ps. ArePut ps old new) whole (subst (λ x. ArePut (desk_files d) x new) (again ∙ same) put);
-    }
+is_replayed c s es o d old later latest new t same again subject events left d_subject d_journal put t_events t_lines t_complete = record {
+  subject = s;
+  events = es;
+  outcome = o;
+  stands = both_stand c s es old later same subject events;
+  left = left;
+  tally = left_tally s es o t left t_events t_lines t_complete;
+  put = subst (λ ps. ArePut ps old new) (left_files s es o d left d_subject d_journal) (subst (λ x. ArePut (desk_files d) x new) (again ∙ same) put);
+}
 
 cut_since : (ps : List Put) (early late now : List ℕ → ℕ) (old new : Option Files) (why : PutEnd) → NoneFalls early late → AreCutShort ps (RoseAt late now) old new why
     → AreCutShort ps (RoseAt early now) old new why
@@ -94,23 +93,23 @@ cut_since ps early late now old new why falls cut = record {
 }
 
 refused_put : (c : Replay) (old new : Option Files) (read_rose put_rose : List ℕ → Type 0) (why : PutEnd) → IsCutShort c put_rose old new why → Declines c old new read_rose put_rose (put_status why)
-refused_put c old new read_rose put_rose (Fault name) cut = inr (inr (inr cut))
+refused_put c old new read_rose put_rose (Fault name) cut = inr (inr cut)
 refused_put c old new read_rose put_rose Memory cut = inr cut
 
 -- the puts were cut short
 pub put_declines : (c : Replay) (s : SubjectSeen) (es : List Event) (o : OutcomeSeen) (d : DeskSeen) (old later latest new : Option Files) (read_rose : List ℕ → Type 0) (early late now : List ℕ → ℕ)
     (why : PutEnd) → later ≡ old → latest ≡ later → NoneFalls early late
-    → IfSome old (λ fs. HasSubject c fs s) → IfSome later (λ fs. HasEvents c.events fs es) → AllAllowed (start_of s) es → o ≡ outcome_of s es
+    → IfSome old (λ fs. HasSubject c fs s) → IfSome later (λ fs. HasEvents c.events fs es) → Leave s es o
     → d.subject ≡ o.core.subject → d.journal ≡ o.core.journal → AreCutShort (desk_files d) (RoseAt late now) latest new why
     → Declines c old new read_rose (RoseAt early now) (put_status why)
-put_declines c s es o d old later latest new read_rose early late now why same again falls subject events allowed is d_subject d_journal cut =
-    let whole = outcome_files s es d (d_subject ∙ ap (λ x. x.core.subject) is) (d_journal ∙ ap (λ x. x.core.journal) is) in
+put_declines c s es o d old later latest new read_rose early late now why same again falls subject events left d_subject d_journal cut =
     refused_put c old new read_rose (RoseAt early now) why (record {
       subject = s;
       events = es;
+      outcome = o;
       stands = both_stand c s es old later same subject events;
-      allowed = allowed;
-      puts = subst (λ ps. AreCutShort ps (RoseAt early now) old new why) whole
+      left = left;
+      puts = subst (λ ps. AreCutShort ps (RoseAt early now) old new why) (left_files s es o d left d_subject d_journal)
           (subst (λ x. AreCutShort (desk_files d) (RoseAt early now) x new why) (again ∙ same) (cut_since (desk_files d) early late now latest new why falls cut));
     })
 
@@ -118,28 +117,35 @@ some_subject : (c : Replay) (s : SubjectSeen) (old : Option Files) → IfSome ol
 some_subject c s None h = tt
 some_subject c s (Some fs) h = (s, h)
 
+both_told : (c : Replay) (s : SubjectSeen) (old later : Option Files) (fault : EventsFault) → later ≡ old → IfSome old (λ fs. HasSubject c fs s) → IfSome later (HasBadEvents c.events fault)
+    → IfSome old (λ fs. HasSomeSubject c fs × HasBadEvents c.events fault fs)
+both_told c s old later fault same subject fails = if_both old later same (some_subject c s old subject) fails (λ fs p q. (p, q))
+
 -- the events weren't read
 pub events_decline : (c : Replay) (s : SubjectSeen) (old later new : Option Files) (early late now : List ℕ → ℕ) (put_rose : List ℕ → Type 0) (why : Status) → later ≡ old → new ≡ later → NoneFalls early late
     → IfSome old (λ fs. HasSubject c fs s) → EventsFail c.events later (Rose (late c.events) (now c.events)) why → Declines c old new (RoseAt early now) put_rose why
 events_decline c s old later new early late now put_rose status.OutOfMemory same again falls subject fails = inl (again ∙ same)
-events_decline c s old later new early late now put_rose (status.NotYet input.Events) same again falls subject fails =
-    (again ∙ same, if_both old later same (some_subject c s old subject) fails (λ fs p q. (p, q)))
+events_decline c s old later new early late now put_rose (status.EventsRefused place NotAllowed) same again falls subject fails = absurd fails
+events_decline c s old later new early late now put_rose (status.EventsRefused place TooLong) same again falls subject fails =
+    (again ∙ same, both_told c s old later (record { place = place; reason = TooLong }) same subject fails)
+events_decline c s old later new early late now put_rose (status.EventsRefused place Text) same again falls subject fails =
+    (again ∙ same, both_told c s old later (record { place = place; reason = Text }) same subject fails)
+events_decline c s old later new early late now put_rose (status.EventsRefused place Form) same again falls subject fails =
+    (again ∙ same, both_told c s old later (record { place = place; reason = Form }) same subject fails)
+events_decline c s old later new early late now put_rose (status.EventsRefused place TooMany) same again falls subject fails =
+    (again ∙ same, both_told c s old later (record { place = place; reason = TooMany }) same subject fails)
 events_decline c s old later new early late now put_rose (status.ShelfFault at) same again falls subject fails =
-    inr (inr (inl (fails.0, subst (RoseAt early now) (sym fails.0) (Rose-wider (early c.events) (late c.events) (now c.events) (now c.events) (falls c.events) fails.1 (omega arith)), again ∙ same, some_subject c s old subject)))
-events_decline c s old later new early late now put_rose (status.NotYet input.Script) same again falls subject fails = absurd fails
-events_decline c s old later new early late now put_rose (status.NotYet input.Source) same again falls subject fails = absurd fails
+    inr (inl (again ∙ same, fails.0, subst (RoseAt early now) (sym fails.0) (Rose-wider (early c.events) (late c.events) (now c.events) (now c.events) (falls c.events) fails.1 (omega arith)), some_subject c s old subject))
 events_decline c s old later new early late now put_rose status.Ok same again falls subject fails = absurd fails
 events_decline c s old later new early late now put_rose status.Usage same again falls subject fails = absurd fails
 events_decline c s old later new early late now put_rose (status.ScriptRefused step reason) same again falls subject fails = absurd fails
 events_decline c s old later new early late now put_rose (status.SourceRefused fault) same again falls subject fails = absurd fails
-events_decline c s old later new early late now put_rose (status.EventsRefused place reason) same again falls subject fails = absurd fails
 events_decline c s old later new early late now put_rose status.SaidFault same again falls subject fails = absurd fails
 
 -- a refusal and its line make the answer
 pub declines_reply : (c : Replay) (old new : Option Files) (read_rose put_rose : List ℕ → Type 0) (said_rose : Type 0) (was is : Option (List ℕ)) (why : Status) → Declines c old new read_rose put_rose why
     → Tells (refusal_text why) said_rose was is → Replies c old new read_rose put_rose said_rose was is why
 declines_reply c old new read_rose put_rose said_rose was is status.OutOfMemory declines tells = inl (declines, tells)
-declines_reply c old new read_rose put_rose said_rose was is (status.NotYet what) declines tells = (declines, tells)
 declines_reply c old new read_rose put_rose said_rose was is (status.ShelfFault name) declines tells = (declines, tells)
 declines_reply c old new read_rose put_rose said_rose was is (status.ScriptRefused step reason) declines tells = (declines, tells)
 declines_reply c old new read_rose put_rose said_rose was is (status.SourceRefused fault) declines tells = (declines, tells)

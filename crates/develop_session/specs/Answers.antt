@@ -1,14 +1,13 @@
 -- each answer of `develop` with its cause, and what stands and was said afterwards
-use Rattle.std.specs.Prelude.{◌≡◌, ◌⊎◌, ℕ, List, Option, Some, None, IfSome}
+use Rattle.std.specs.Prelude.{◌≡◌, ◌⊎◌, ℕ, List, Option, Some, None}
 use Rattle.outside.specs.Shelf.{Files}
 use Rattle.outside.specs.Said.{Says, SaysInPart}
 use Rattle.develop_session.specs.declared.status.Status.{Status}
 use Rattle.develop_session.specs.declared.status.Status.TheVariants as status
 use Rattle.develop_session.specs.Words.{Command}
 use Rattle.develop_session.specs.Texts.{developed_text, refusal_text}
-use Rattle.develop_session.specs.Files.{HasBadScript, HasSomeScript, HasScriptThat, HasBadSource}
 use Rattle.develop_session.specs.Develop.{IsDeveloped, IsPutInPart}
-use Rattle.develop_session.specs.Failures.{Tells}
+use Rattle.develop_session.specs.Failures.{InputFails, Tells}
 
 -- Where the shelf tells its files, the picture of those sides was developed; where it doesn't, it still tells none.
 abbrev pub Develops : Command → Option Files → Option Files → ℕ → ℕ → Type 0
@@ -23,12 +22,11 @@ PutFails c (Some fs) new = IsPutInPart c fs new
 -- The run was refused. The two predicates say of a name that its count of faults rose in this call.
 abbrev pub Refuses : Command → Option Files → Option Files → (List ℕ → Type 0) → (List ℕ → Type 0) → Status → Type 0
 Refuses c old new read_rose put_rose status.OutOfMemory = new ≡ old
-Refuses c old new read_rose put_rose (status.ScriptRefused step reason) = (new ≡ old) × IfSome old (HasBadScript c.script (record { step = step; reason = reason }))
-Refuses c old new read_rose put_rose (status.SourceRefused fault) = (new ≡ old) × IfSome old (λ fs. HasScriptThat (λ r. HasBadSource c.source r.settings.cfa fault fs) c.script fs)
+Refuses c old new read_rose put_rose (status.ScriptRefused step reason) = (new ≡ old) × InputFails c.script c.source old read_rose (status.ScriptRefused step reason)
+Refuses c old new read_rose put_rose (status.SourceRefused fault) = (new ≡ old) × InputFails c.script c.source old read_rose (status.SourceRefused fault)
 Refuses c old new read_rose put_rose (status.ShelfFault name) =
-    ((name ≡ c.script) × read_rose name × (new ≡ old))
-    ⊎ (((name ≡ c.source) × read_rose name × (new ≡ old) × IfSome old (HasSomeScript c.script))
-    ⊎ ((name ≡ c.out) × put_rose name × PutFails c old new))
+    ((new ≡ old) × InputFails c.script c.source old read_rose (status.ShelfFault name))
+    ⊎ ((name ≡ c.out) × put_rose name × PutFails c old new)
 Refuses c old new read_rose put_rose _ = ⊥
 
 -- Each answer of `develop` with its cause. The counts of faults are those of this call.
@@ -44,6 +42,5 @@ Answers c old new read_rose put_rose said_rose was is (status.ScriptRefused step
     Refuses c old new read_rose put_rose (status.ScriptRefused step reason) × Tells (refusal_text (status.ScriptRefused step reason)) said_rose was is
 Answers c old new read_rose put_rose said_rose was is (status.SourceRefused fault) =
     Refuses c old new read_rose put_rose (status.SourceRefused fault) × Tells (refusal_text (status.SourceRefused fault)) said_rose was is
-Answers c old new read_rose put_rose said_rose was is (status.NotYet what) = ⊥
 Answers c old new read_rose put_rose said_rose was is (status.ShelfFault name) =
     Refuses c old new read_rose put_rose (status.ShelfFault name) × Tells (refusal_text (status.ShelfFault name)) said_rose was is

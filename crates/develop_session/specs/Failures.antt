@@ -6,17 +6,14 @@ use Rattle.outside.specs.Said.{Says, SaysInPart}
 use Rattle.outside.specs.declared.failed.Failed.{Failed}
 use Rattle.outside.specs.declared.failed.Failed.TheVariants as failed
 use Rattle.dev_core.specs.Subject.{SubjectSeen}
-use Rattle.stepped.specs.declared.event.Event.{Event}
-use Rattle.stepped.specs.declared.fault.EventReason.TheVariants.{NotAllowed}
+use Rattle.events.specs.declared.event.Event.{Event}
+use Rattle.events.specs.declared.fault.EventReason.TheVariants.{NotAllowed}
 use Rattle.stepped.specs.Outcome.{OutcomeSeen, start_of, IsRefused}
 use Rattle.publish.specs.declared.put_end.PutEnd.{PutEnd}
 use Rattle.publish.specs.declared.put_end.PutEnd.TheVariants as put_end
-use Rattle.develop_session.specs.declared.status.Input.TheVariants as input
 use Rattle.develop_session.specs.declared.status.Status.{Status}
 use Rattle.develop_session.specs.declared.status.Status.TheVariants as status
-use Rattle.develop_session.specs.Files.{HasBadScript, HasScriptThat, HasScriptBut, HasBadSource, HasNoEvents}
-use Rattle.develop_session.specs.Replay.{HasLargeSource, IsServed}
-use Rattle.develop_session.specs.Words.{Replay}
+use Rattle.develop_session.specs.Files.{HasBadScript, HasSomeScript, HasScriptThat, HasBadSource, HasBadEvents}
 
 -- the status of a failed call of the shelf at a name: a fault tells the name
 abbrev pub failed_status : List ℕ → Failed → Status
@@ -43,14 +40,6 @@ ScriptFails name old rose status.OutOfMemory = Unit {0}
 ScriptFails name old rose (status.ShelfFault at) = (at ≡ name) × rose
 ScriptFails name old rose _ = ⊥
 
--- the script wasn't read, or is one that no replay serves so far
-abbrev pub ServedScriptFails : List ℕ → Option Files → Type 0 → Status → Type 0
-ServedScriptFails name old rose (status.ScriptRefused step reason) = IfSome old (HasBadScript name (record { step = step; reason = reason }))
-ServedScriptFails name old rose (status.NotYet input.Script) = IfSome old (HasScriptBut IsServed name)
-ServedScriptFails name old rose status.OutOfMemory = Unit {0}
-ServedScriptFails name old rose (status.ShelfFault at) = (at ≡ name) × rose
-ServedScriptFails name old rose _ = ⊥
-
 -- the source wasn't read
 abbrev pub SourceFails : List ℕ → Option Cfa → Option Files → Type 0 → Status → Type 0
 SourceFails name cfa old rose (status.SourceRefused fault) = IfSome old (HasBadSource name cfa fault)
@@ -58,34 +47,26 @@ SourceFails name cfa old rose status.OutOfMemory = Unit {0}
 SourceFails name cfa old rose (status.ShelfFault at) = (at ≡ name) × rose
 SourceFails name cfa old rose _ = ⊥
 
--- the source wasn't read, or isn't small
-abbrev pub SmallSourceFails : List ℕ → Option Cfa → Option Files → Type 0 → Status → Type 0
-SmallSourceFails name cfa old rose (status.SourceRefused fault) = IfSome old (HasBadSource name cfa fault)
-SmallSourceFails name cfa old rose (status.NotYet input.Source) = IfSome old (HasLargeSource name cfa)
-SmallSourceFails name cfa old rose status.OutOfMemory = Unit {0}
-SmallSourceFails name cfa old rose (status.ShelfFault at) = (at ≡ name) × rose
-SmallSourceFails name cfa old rose _ = ⊥
-
--- the script or the source wasn't read, or isn't served
-abbrev pub SubjectFails : Replay → Option Files → (List ℕ → Type 0) → Status → Type 0
-SubjectFails c old rose (status.ScriptRefused step reason) = IfSome old (HasBadScript c.script (record { step = step; reason = reason }))
-SubjectFails c old rose (status.NotYet input.Script) = IfSome old (HasScriptBut IsServed c.script)
-SubjectFails c old rose (status.SourceRefused fault) = IfSome old (λ fs. HasScriptThat (λ r. IsServed r × HasBadSource c.source r.settings.cfa fault fs) c.script fs)
-SubjectFails c old rose (status.NotYet input.Source) = IfSome old (λ fs. HasScriptThat (λ r. IsServed r × HasLargeSource c.source r.settings.cfa fs) c.script fs)
-SubjectFails c old rose status.OutOfMemory = Unit {0}
-SubjectFails c old rose (status.ShelfFault name) = ((name ≡ c.script) × rose name) ⊎ ((name ≡ c.source) × rose name × IfSome old (HasScriptThat IsServed c.script))
-SubjectFails c old rose _ = ⊥
+-- The script or the source wasn't read: the file is none, with its first fault, or reading it failed. The source is read
+-- beside a script that stands there, by that one's colour filter array.
+abbrev pub InputFails : List ℕ → List ℕ → Option Files → (List ℕ → Type 0) → Status → Type 0
+InputFails script source old rose (status.ScriptRefused step reason) = IfSome old (HasBadScript script (record { step = step; reason = reason }))
+InputFails script source old rose (status.SourceRefused fault) = IfSome old (λ fs. HasScriptThat (λ r. HasBadSource source r.settings.cfa fault fs) script fs)
+InputFails script source old rose status.OutOfMemory = Unit {0}
+InputFails script source old rose (status.ShelfFault name) = ((name ≡ script) × rose name) ⊎ ((name ≡ source) × rose name × IfSome old (HasSomeScript script))
+InputFails script source old rose _ = ⊥
 
 -- the events weren't read
 abbrev pub EventsFail : List ℕ → Option Files → Type 0 → Status → Type 0
-EventsFail name old rose (status.NotYet input.Events) = IfSome old (HasNoEvents name)
+EventsFail name old rose (status.EventsRefused place NotAllowed) = ⊥
+EventsFail name old rose (status.EventsRefused place reason) = IfSome old (HasBadEvents name (record { place = place; reason = reason }))
 EventsFail name old rose status.OutOfMemory = Unit {0}
 EventsFail name old rose (status.ShelfFault at) = (at ≡ name) × rose
 EventsFail name old rose _ = ⊥
 
 -- the events were cut short: one may not happen, or want of memory
 abbrev pub RunFails : SubjectSeen → List Event → Status → Type 0
-RunFails s events (status.EventsRefused place reason) = (reason ≡ NotAllowed) × ((before : OutcomeSeen) × IsRefused (start_of s) events place before)
+RunFails s events (status.EventsRefused place NotAllowed) = (before : OutcomeSeen) × IsRefused (start_of s) events place before
 RunFails s events status.OutOfMemory = Unit {0}
 RunFails s events _ = ⊥
 

@@ -1,5 +1,5 @@
 -- what stands under the names of a command
-use Rattle.std.specs.Prelude.{◌≡◌, ℕ, List, take, Option, Some, None, Ok, Err}
+use Rattle.std.specs.Prelude.{◌≡◌, ℕ, List, take, Option, Some, Ok, Err}
 use Rattle.px.specs.Picture.{Picture}
 use Rattle.px.specs.declared.kind.Cfa.{Cfa}
 use Rattle.pnm.specs.declared.fault.PnmFault.{PnmFault}
@@ -9,8 +9,9 @@ use Rattle.outside.specs.Shelf.{Files, held}
 use Rattle.edit_steps.specs.declared.fault.ScriptFault.{ScriptFault}
 use Rattle.edit_steps.specs.Script.{Recipe}
 use Rattle.edit_script.specs.Script.{script_of}
-use Rattle.stepped.specs.declared.event.Event.{Event}
-use Rattle.stepped.specs.EventForms.{events_of}
+use Rattle.events.specs.declared.event.Event.{Event}
+use Rattle.events.specs.declared.fault.EventsFault.{EventsFault}
+use Rattle.events.specs.Events.{events_of}
 
 -- a script stands under the name
 pub record HasScript (name : List ℕ) (fs : Files) (script : Recipe) : Type 0 where
@@ -32,10 +33,6 @@ HasSomeScript name fs = (script : Recipe) × HasScript name fs script
 abbrev pub HasScriptThat : (Recipe → Type 0) → List ℕ → Files → Type 0
 HasScriptThat P name fs = (script : Recipe) × HasScript name fs script × P script
 
--- a script stands there, of which this doesn't hold
-abbrev pub HasScriptBut : (Recipe → Type 0) → List ℕ → Files → Type 0
-HasScriptBut P name fs = (script : Recipe) × HasScript name fs script × (P script → ⊥)
-
 -- the file under the name is this picture, by the colour filter array
 pub record HasSource (name : List ℕ) (cfa : Option Cfa) (fs : Files) (q : Picture) : Type 0 where
   pub bytes : List ℕ
@@ -52,10 +49,10 @@ pub record HasBadSource (name : List ℕ) (cfa : Option Cfa) (fault : PnmFault) 
 pub record HasEvents (name : List ℕ) (fs : Files) (events : List Event) : Type 0 where
   pub bytes : List ℕ
   pub stands : held fs name ≡ Some bytes
-  pub reads : events_of bytes ≡ Some events
+  pub reads : events_of bytes ≡ Ok events
 
--- the file under the name hasn't the form of a list of events
-pub record HasNoEvents (name : List ℕ) (fs : Files) : Type 0 where
+-- the file under the name is no list of events, and this is its first fault
+pub record HasBadEvents (name : List ℕ) (fault : EventsFault) (fs : Files) : Type 0 where
   pub bytes : List ℕ
   pub stands : held fs name ≡ Some bytes
-  pub reads : events_of bytes ≡ None
+  pub reads : events_of bytes ≡ Err fault

@@ -7,3 +7,4 @@ pub mod Failures
 pub mod Answers
 pub mod Replies
 pub mod Names
+pub mod Complete

@@ -3,8 +3,7 @@ use Rattle.std.specs.Prelude.{ℕ, Bool, true, false, List, [], ◌++◌, codes}
 use Rattle.std.specs.Fmt.{decimal}
 use Rattle.pnm.specs.Texts.{kind_text}
 use Rattle.edit_steps.specs.Texts as script
-use Rattle.stepped.specs.Texts as events
-use Rattle.develop_session.specs.declared.status.Input.TheVariants as input
+use Rattle.events.specs.Texts as events
 use Rattle.develop_session.specs.declared.status.Status.{Status}
 use Rattle.develop_session.specs.declared.status.Status.TheVariants as status
 use Rattle.develop_session.specs.declared.tally.Tally.{Tally}
@@ -18,7 +17,6 @@ code_of (status.EventsRefused place reason) = 4
 code_of (status.ShelfFault name) = 5
 code_of status.SaidFault = 6
 code_of status.OutOfMemory = 7
-code_of (status.NotYet what) = 8
 
 -- the written sides
 abbrev pub developed_text : ℕ → ℕ → List ℕ
@@ -40,8 +38,5 @@ refusal_text (status.ScriptRefused step reason) = codes "script refused at step 
 refusal_text (status.SourceRefused fault) = codes "source refused at byte " ++ (decimal fault.place ++ (codes ": " ++ (kind_text fault.kind ++ codes "\n")))
 refusal_text (status.EventsRefused place reason) = codes "events refused at event " ++ (decimal place ++ (codes ": " ++ (events.event_reason_text reason ++ codes "\n")))
 refusal_text status.OutOfMemory = codes "out of memory\n"
-refusal_text (status.NotYet input.Script) = codes "not yet: script\n"
-refusal_text (status.NotYet input.Source) = codes "not yet: source\n"
-refusal_text (status.NotYet input.Events) = codes "not yet: events\n"
 refusal_text status.Ok = []
 refusal_text status.SaidFault = []

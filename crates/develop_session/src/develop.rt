@@ -12,7 +12,7 @@ ghost use Rattle.develop_session.specs.Words.{Command};
 
 use crate::command::Names;
 use crate::devices::{put_file, say_line, tell};
-use crate::inputs::{SOURCE_FRONT, read_script, read_source};
+use crate::inputs::read_inputs;
 use crate::status::Status;
 use edit_steps::Script;
 use modules_raw::Source;
@@ -51,9 +51,7 @@ fn develop<R: Threads + Sync, S: Shelf>(
     ensures ok { IfOk result (λ sides. Develops (command names.entry) (S.files shelf.old) (S.files shelf.new) sides.0 sides.1) }
     ensures cause { IfErr result (Refuses (command names.entry) (S.files shelf.old) (S.files shelf.new) (RoseAt (S.read_faults shelf.old) (S.read_faults shelf.new)) (RoseAt (S.put_faults shelf.old) (S.put_faults shelf.new))) }
 {
-    let script = read_script(alloc, shelf, names.script)?;
-    let cfa = script.settings().cfa;
-    let plane = read_source(alloc, shelf, names.source, SOURCE_FRONT, cfa)?;
+    let (script, plane) = read_inputs(alloc, shelf, names.script, names.source)?;
     let (w, h, bytes) = develop_bytes(rt, alloc, &script, &Source::of(plane))?;
     put_file(alloc, shelf, names.out, bytes.as_slice())?;
     Ok((w, h))

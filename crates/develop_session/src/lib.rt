@@ -6,12 +6,11 @@ mod develop;
 mod devices;
 mod inputs;
 mod replay;
-mod served;
 mod status;
 mod tally;
 mod words;
 
 pub use develop::develop_once;
 pub use replay::run_stepped;
-pub use status::{Input, Status};
+pub use status::Status;
 pub use words::run_words;

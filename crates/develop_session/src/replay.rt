@@ -1,27 +1,26 @@
 //! `stepped`: the files of the journal that a list of events makes.
-ghost use Rattle.std.specs.Prelude.{◌≡◌, ◌↔◌, ◌≤◌, length, IfOk, IfErr, IfSome, IsTrue};
+ghost use Rattle.std.specs.Prelude.{◌≡◌, ◌≤◌, length, IfOk, IfErr, IfSome};
 ghost use Rattle.std.specs.Arc.{arc_value};
 ghost use Rattle.px.specs.Cut.{IsWhole};
 ghost use Rattle.outside.specs.Faults.{Rose, NoneFalls};
-ghost use Rattle.dev_core.specs.Desk.{IsComplete};
-ghost use Rattle.dev_core.specs.Lines.{lines};
-ghost use Rattle.stepped.specs.Outcome.{AllAllowed, start_of};
-ghost use Rattle.stepped.specs.Step.{desk_at};
+ghost use Rattle.journal.specs.Desk.{start, desk_of, is_complete};
+ghost use Rattle.journal.specs.Lines.{lines};
 ghost use Rattle.publish.specs.Files.{RoseAt};
-ghost use Rattle.develop_session.specs.Failures.{RunFails, SaysLine, SubjectFails};
+ghost use Rattle.develop_session.specs.Failures.{InputFails, RunFails, SaysLine};
 ghost use Rattle.develop_session.specs.Names.{replay};
-ghost use Rattle.develop_session.specs.Replay.{HasSubject, IsReplayed, outcome_of};
+ghost use Rattle.develop_session.specs.Replay.{HasSubject, IsReplayed, Leave};
 ghost use Rattle.develop_session.specs.Replies.{Declines, Replies};
 ghost use Rattle.develop_session.specs.Texts.{replayed_text};
 ghost use Rattle.develop_session.specs.Words.{Replay};
 
 use crate::command::ReplayNames;
 use crate::devices::{say_line, tell};
-use crate::inputs::{SOURCE_FRONT, read_events, read_served_script, read_small_source};
+use crate::inputs::{read_events, read_inputs};
 use crate::status::Status;
 use crate::tally::{Tally, replayed_line};
 use dev_core::Subject;
 use edit_steps::Script;
+use events::{Event, EventReason};
 use modules_raw::Source;
 use outside::{Said, Shelf};
 use publish::write_all;
@@ -29,7 +28,7 @@ use px::Plane;
 use std::alloc::{AllocError, Global};
 use std::sync::Arc;
 use std::thread::Threads;
-use stepped::{Event, EventReason, Outcome, StepEnd, stepped};
+use stepped::{Outcome, StepEnd, stepped};
 
 fn subject_of(alloc: Global, script: Script, plane: Plane) -> Result<Arc<Subject>, AllocError>
     requires whole { IsWhole plane }
@@ -46,14 +45,12 @@ fn read_subject<S: Shelf>(
     names: ReplayNames<'_>,
 ) -> Result<Arc<Subject>, Status>
     ensures subject { IfOk result (λ s. IfSome (S.files shelf.old) (λ fs. HasSubject (replay names.entry) fs (arc_value s))) }
-    ensures cause { IfErr result (SubjectFails (replay names.entry) (S.files shelf.old) (RoseAt (S.read_faults shelf.old) (S.read_faults shelf.new))) }
+    ensures cause { IfErr result (InputFails (replay names.entry).script (replay names.entry).source (S.files shelf.old) (RoseAt (S.read_faults shelf.old) (S.read_faults shelf.new))) }
     ensures unchanged { S.files shelf.new ≡ S.files shelf.old }
     ensures reads { NoneFalls (S.read_faults shelf.old) (S.read_faults shelf.new) }
     ensures puts { NoneFalls (S.put_faults shelf.old) (S.put_faults shelf.new) }
 {
-    let script = read_served_script(alloc, shelf, names.script)?;
-    let cfa = script.settings().cfa;
-    let plane = read_small_source(alloc, shelf, names.source, SOURCE_FRONT, cfa)?;
+    let (script, plane) = read_inputs(alloc, shelf, names.script, names.source)?;
     Ok(subject_of(alloc, script, plane)?)
 }
 
@@ -65,8 +62,7 @@ fn run_all<R: Threads + Sync>(
     events: &[Event],
 ) -> Result<Outcome, Status>
     requires few { length events.now ≤ 65536 }
-    ensures allowed { IfOk result (λ o. AllAllowed (start_of (arc_value subject.now)) events.now) }
-    ensures outcome { IfOk result (λ o. o ≡ outcome_of (arc_value subject.now) events.now) }
+    ensures left { IfOk result (λ o. Leave (arc_value subject.now) events.now o) }
     ensures cause { IfErr result (RunFails (arc_value subject.now) events.now) }
 {
     let mut outcome = Outcome::start(alloc, subject)?;
@@ -83,7 +79,7 @@ fn run_all<R: Threads + Sync>(
 fn tally_of(events: &[Event], outcome: &Outcome) -> Tally
     ensures events { result.events ≡ length events.now }
     ensures lines { result.lines ≡ length (lines outcome.now.core.subject.script outcome.now.core.journal) }
-    ensures complete { IsTrue result.complete ↔ IsComplete outcome.now.core.subject.script (desk_at outcome.now.core) }
+    ensures complete { result.complete ≡ is_complete outcome.now.core.subject.script (desk_of start outcome.now.core.journal) }
 {
     let desk = outcome.desk();
     Tally {
@@ -121,8 +117,7 @@ fn say_replayed<O: Said>(alloc: Global, said: &mut O, tally: Tally) -> Status
 }
 
 /// Replays the EVENTS on the picture SOURCE and the script SCRIPT, puts the files of the journal that
-/// they make, and says how many events and lines there were and whether all was done. The source is
-/// at most 480 pixels wide and high.
+/// they make, and says how many events and lines there were and whether all was done.
 pub fn run_stepped<R: Threads + Sync, S: Shelf, O: Said>(
     rt: &R,
     alloc: Global,

@@ -2,19 +2,11 @@ ghost use Rattle.std.specs.Prelude.{◌≡◌, IfOk, string_bytes};
 ghost use Rattle.develop_session.specs.Texts.{code_of, refusal_text};
 
 use edit_steps::Reason;
+use events::EventReason;
 use outside::Name;
 use pnm::PnmFault;
 use publish::PutEnd;
 use std::alloc::{AllocError, Global};
-use stepped::EventReason;
-
-/// An input file of a command.
-#[derive(Clone, Copy, Debug, PartialEq, Eq)]
-pub enum Input {
-    Script,
-    Source,
-    Events,
-}
 
 /// How a command ended.
 #[derive(Debug, Drop, PartialEq, Eq)]
@@ -33,8 +25,6 @@ pub enum Status {
     /// A fault of the output, on a run that else was `Ok`.
     SaidFault,
     OutOfMemory,
-    /// The file hasn't the form that is built so far.
-    NotYet { what: Input },
 }
 
 impl From<AllocError> for Status {
@@ -74,7 +64,6 @@ impl Status {
             Status::ShelfFault { .. } => 5,
             Status::SaidFault => 6,
             Status::OutOfMemory => 7,
-            Status::NotYet { .. } => 8,
         }
     }
 }
@@ -99,15 +88,6 @@ pub(crate) fn refusal_line(alloc: Global, status: &Status) -> Result<String, All
         }
         Status::ShelfFault { name } => format!(in alloc; "shelf fault: {name}\n"),
         Status::OutOfMemory => String::from_str(alloc, "out of memory\n"),
-        Status::NotYet {
-            what: Input::Script,
-        } => String::from_str(alloc, "not yet: script\n"),
-        Status::NotYet {
-            what: Input::Source,
-        } => String::from_str(alloc, "not yet: source\n"),
-        Status::NotYet {
-            what: Input::Events,
-        } => String::from_str(alloc, "not yet: events\n"),
         Status::Ok | Status::SaidFault => String::from_str(alloc, ""),
     }
 }

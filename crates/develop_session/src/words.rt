@@ -1,4 +1,4 @@
-ghost use Rattle.std.specs.Prelude.{◌≡◌, ◌⊎◌, ◌↔◌, List, IfSome, IsSome, None};
+ghost use Rattle.std.specs.Prelude.{◌≡◌, ◌⊎◌, ◌↔◌, List, IfSome, IsSome, IsSomeAnd, None};
 ghost use Rattle.params.specs.declared.settings.Exposure.{Exposure};
 ghost use Rattle.px.specs.Picture.{Picture};
 ghost use Rattle.outside.specs.Faults.{Rose};
@@ -9,6 +9,7 @@ ghost use Rattle.develop_session.specs.Texts.{refusal_text};
 ghost use Rattle.develop_session.specs.Failures.{Tells};
 ghost use Rattle.develop_session.specs.Answers.{Answers};
 ghost use Rattle.develop_session.specs.Replies.{Replies};
+ghost use Rattle.develop_session.specs.Complete.{AreValid, IsValidReplay, NoneRose, IsServed};
 
 use crate::command::{Names, ReplayNames, names_of, replay_names_of};
 use crate::develop::develop_once;
@@ -42,6 +43,10 @@ pub fn run_words<R: Threads + Sync, S: Shelf, O: Said>(
     ensures stepped { IfSome (replay_of (texts words.now)) (λ c.
         Replies c (S.files shelf.old) (S.files shelf.new) (RoseAt (S.read_faults shelf.old) (S.read_faults shelf.new)) (RoseAt (S.put_faults shelf.old) (S.put_faults shelf.new))
         (Rose (O.faults said.old) (O.faults said.new)) (O.said said.old) (O.said said.new) result) }
+    ensures develop_served { IfSome (command_of (texts words.now)) (λ c. IsSomeAnd (S.files shelf.old) (AreValid c.script c.source) → NoneRose (RoseAt (S.read_faults shelf.old) (S.read_faults shelf.new)) (RoseAt (S.put_faults shelf.old) (S.put_faults shelf.new))
+        (Rose (O.faults said.old) (O.faults said.new)) → IsServed result) }
+    ensures stepped_served { IfSome (replay_of (texts words.now)) (λ c. IsSomeAnd (S.files shelf.old) (IsValidReplay c) → NoneRose (RoseAt (S.read_faults shelf.old) (S.read_faults shelf.new)) (RoseAt (S.put_faults shelf.old) (S.put_faults shelf.new))
+        (Rose (O.faults said.old) (O.faults said.new)) → IsServed result) }
 {
     if let Some(names) = names_of(words) {
         let Names {

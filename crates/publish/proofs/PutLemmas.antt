@@ -5,20 +5,28 @@ use Rattle.std.proofs.Common.{take_all}
 use Rattle.std.proofs.Math.Seq.{take-append_seam}
 use Rattle.std.proofs.lemmas.List.{take_more, take-map, take-append-le}
 use Rattle.std.proofs.lemmas.Option.{slice_get-map, slice_get_read, slice_get_within}
+use Rattle.std.specs.List.{All}
+use Rattle.std.proofs.lemmas.List.Elements.{All-same, All-map}
 use Rattle.outside.specs.Faults.{NoneFalls}
 use Rattle.outside.specs.Shelf.{Files, with_file, with_files, Puts}
 use Rattle.outside.proofs.FaultLaws.{Rose-wider}
 use Rattle.outside.proofs.ShelfLaws.{with_files-append}
 use Rattle.dev_core.specs.Jobs.{FrameSeen}
 use Rattle.dev_core.specs.DeskState.{DeskSeen}
-use Rattle.dev_core.specs.Lines.{Line, line_frame, lines, frames_of}
+use Rattle.edit_steps.specs.Script.{Recipe}
+use Rattle.journal.specs.declared.entry.Entry.{Entry}
+use Rattle.journal.specs.Desk.{Legal}
+use Rattle.journal.specs.Lines.{Line, lines}
+use Rattle.dev_core.specs.Lines.{line_frame, frames_of}
 use Rattle.dev_core.specs.Subject.{SubjectSeen}
 use Rattle.publish.specs.declared.put_end.PutEnd.{PutEnd}
 use Rattle.publish.specs.declared.put_end.PutEnd.TheVariants.{Fault, Memory}
+use Rattle.publish.specs.Names.{HasJob, HasDone}
+use Rattle.publish.proofs.LineLemmas.{legal_jobs, legal_done}
 use Rattle.publish.specs.Files.{Put, ArePut, AreCutShort, PutFails, RoseAt, frame_put, put_of, manifest_put, desk_files}
 
 -- the put of a line's frame is the line's
-pub frames_put : (s : SubjectSeen) (ls : List Line) → map frame_put (map (line_frame s) ls) ≡ map (put_of s) ls
+pub frames_put : (s : SubjectSeen) (ls : List Line) → map (frame_put s.script) (map (line_frame s) ls) ≡ map (put_of s) ls
 frames_put s [] = refl
 frames_put s (l ∷ ls) = ap (λ ps. put_of s l ∷ ps) (frames_put s ls)
 
@@ -74,52 +82,84 @@ cut_at_last ps q rose old between new why front fails = record {
 
 -- ---- frames in turn
 
-pub frames_from_start : (fs : List FrameSeen) (old : Option Files) → ArePut (map frame_put (take 0 fs)) old old
-frames_from_start [] old = none_put old
-frames_from_start (f ∷ fs) old = none_put old
+pub frames_from_start : (script : Recipe) (fs : List FrameSeen) (old : Option Files) → ArePut (map (frame_put script) (take 0 fs)) old old
+frames_from_start script [] old = none_put old
+frames_from_start script (f ∷ fs) old = none_put old
 
-pub frames_further : (fs : List FrameSeen) (i : ℕ) (f : FrameSeen) (old between new : Option Files) → i < length fs → f ≡ get_or fs i f → ArePut (map frame_put (take i fs)) old between
-    → Puts (frame_put f).0 (frame_put f).1 between new → ArePut (map frame_put (take (i + 1) fs)) old new
-frames_further fs i f old between new within is front one =
+pub frames_further : (script : Recipe) (fs : List FrameSeen) (i : ℕ) (f : FrameSeen) (old between new : Option Files) → i < length fs → f ≡ get_or fs i f → ArePut (map (frame_put script) (take i fs)) old between
+    → Puts (frame_put script f).0 (frame_put script f).1 between new → ArePut (map (frame_put script) (take (i + 1) fs)) old new
+frames_further script fs i f old between new within is front one =
     let more : take (i + 1) fs ≡ take i fs ++ f ∷ [] = take_more fs i f within ∙ ap (λ x. take i fs ++ x ∷ []) (sym is) in
-    put_further (map frame_put (take i fs)) (frame_put f) old between new front one ∙ ap (λ xs. option_map (with_files xs) old) (sym (ap (map frame_put) more ∙ mapped (take i fs) f))
+    put_further (map (frame_put script) (take i fs)) (frame_put script f) old between new front one ∙ ap (λ xs. option_map (with_files xs) old) (sym (ap (map (frame_put script)) more ∙ mapped (take i fs) f))
   where
-    mapped : (xs : List FrameSeen) (g : FrameSeen) → map frame_put (xs ++ g ∷ []) ≡ map frame_put xs ++ frame_put g ∷ []
+    mapped : (xs : List FrameSeen) (g : FrameSeen) → map (frame_put script) (xs ++ g ∷ []) ≡ map (frame_put script) xs ++ frame_put script g ∷ []
     mapped [] g = refl
-    mapped (x ∷ xs) g = ap (λ ys. frame_put x ∷ ys) (mapped xs g)
+    mapped (x ∷ xs) g = ap (λ ys. frame_put script x ∷ ys) (mapped xs g)
 
-pub frames_cut : (fs : List FrameSeen) (i : ℕ) (f : FrameSeen) (early late now : List ℕ → ℕ) (old between new : Option Files) (why : PutEnd) → i < length fs → f ≡ get_or fs i f → NoneFalls early late
-    → ArePut (map frame_put (take i fs)) old between → PutFails (frame_put f) (RoseAt late now) between new why
-    → AreCutShort (map frame_put fs) (RoseAt early now) old new why
-frames_cut fs i f early late now old between new why within is falls front fails = record {
+pub frames_cut : (script : Recipe) (fs : List FrameSeen) (i : ℕ) (f : FrameSeen) (early late now : List ℕ → ℕ) (old between new : Option Files) (why : PutEnd) → i < length fs → f ≡ get_or fs i f → NoneFalls early late
+    → ArePut (map (frame_put script) (take i fs)) old between → PutFails (frame_put script f) (RoseAt late now) between new why
+    → AreCutShort (map (frame_put script) fs) (RoseAt early now) old new why
+frames_cut script fs i f early late now old between new why within is falls front fails = record {
   done = i;
-  next = frame_put f;
-  stands = slice_get-map frame_put fs i ∙ ap (option_map frame_put) (slice_get_read fs (length fs) i f refl within is);
+  next = frame_put script f;
+  stands = slice_get-map (frame_put script) fs i ∙ ap (option_map (frame_put script)) (slice_get_read fs (length fs) i f refl within is);
   between = between;
-  front = front ∙ ap (λ xs. option_map (with_files xs) old) (sym (take-map frame_put i fs));
-  fails = put_fails_since (frame_put f) early late now between new why falls fails;
+  front = front ∙ ap (λ xs. option_map (with_files xs) old) (sym (take-map (frame_put script) i fs));
+  fails = put_fails_since (frame_put script f) early late now between new why falls fails;
 }
 
-pub frames_done : (fs : List FrameSeen) (i : ℕ) (old new : Option Files) → length fs ≤ i → ArePut (map frame_put (take i fs)) old new → ArePut (map frame_put fs) old new
-frames_done fs i old new past front = front ∙ ap (λ xs. option_map (with_files (map frame_put xs)) old) (take_all i fs past)
+pub frames_done : (script : Recipe) (fs : List FrameSeen) (i : ℕ) (old new : Option Files) → length fs ≤ i → ArePut (map (frame_put script) (take i fs)) old new → ArePut (map (frame_put script) fs) old new
+frames_done script fs i old new past front = front ∙ ap (λ xs. option_map (with_files (map (frame_put script) xs)) old) (take_all i fs past)
 
 -- ---- the files of a desk
 
-desk_frames : (d : DeskSeen) (fs : List FrameSeen) → fs ≡ frames_of d.subject d.journal → map frame_put fs ≡ map (put_of d.subject) (lines d.subject.script d.journal)
-desk_frames d fs is = ap (map frame_put) is ∙ frames_put d.subject (lines d.subject.script d.journal)
+-- the script, the journal and the frames are a desk's
+pub record AreOf (d : DeskSeen) (script : Recipe) (es : List Entry) (fs : List FrameSeen) : Type 0 where
+  pub script_is : script ≡ d.subject.script
+  pub journal_is : es ≡ d.journal
+  pub frames_are : fs ≡ frames_of d.subject d.journal
 
-pub desk_put : (d : DeskSeen) (fs : List FrameSeen) (old between new : Option Files) → fs ≡ frames_of d.subject d.journal
-    → ArePut (map frame_put fs) old between → Puts (manifest_put d).0 (manifest_put d).1 between new → ArePut (desk_files d) old new
-desk_put d fs old between new is front last =
-    subst (λ ps. ArePut (ps ++ manifest_put d ∷ []) old new) (desk_frames d fs is) (put_further (map frame_put fs) (manifest_put d) old between new front last)
+-- as a desk's calls tell it
+pub are_of : (d : DeskSeen) (script : Recipe) (es : List Entry) (fs : List FrameSeen) (s t : SubjectSeen) → script ≡ s.script → s ≡ t → t ≡ d.subject → es ≡ d.journal
+    → fs ≡ frames_of d.subject d.journal → AreOf d script es fs
+are_of d script es fs s t of_script same of_desk journal_is frames_are =
+    record { script_is = of_script ∙ ap (λ (x : SubjectSeen). x.script) (same ∙ of_desk); journal_is = journal_is; frames_are = frames_are }
 
-pub desk_cut : (d : DeskSeen) (fs : List FrameSeen) (rose : List ℕ → Type 0) (old new : Option Files) (why : PutEnd) → fs ≡ frames_of d.subject d.journal
-    → AreCutShort (map frame_put fs) rose old new why → AreCutShort (desk_files d) rose old new why
-desk_cut d fs rose old new why is cut =
-    subst (λ ps. AreCutShort (ps ++ manifest_put d ∷ []) rose old new why) (desk_frames d fs is) (cut_before (map frame_put fs) (manifest_put d) rose old new why cut)
+-- the puts of frames and of a manifest
+abbrev puts_of : Recipe → List Entry → List FrameSeen → List Put
+puts_of script es fs = map (frame_put script) fs ++ manifest_put script es ∷ []
 
-pub desk_cut_at_last : (d : DeskSeen) (fs : List FrameSeen) (early late now : List ℕ → ℕ) (old between new : Option Files) (why : PutEnd) → fs ≡ frames_of d.subject d.journal → NoneFalls early late
-    → ArePut (map frame_put fs) old between → PutFails (manifest_put d) (RoseAt late now) between new why → AreCutShort (desk_files d) (RoseAt early now) old new why
-desk_cut_at_last d fs early late now old between new why is falls front fails =
-    subst (λ ps. AreCutShort (ps ++ manifest_put d ∷ []) (RoseAt early now) old new why) (desk_frames d fs is)
-    (cut_at_last (map frame_put fs) (manifest_put d) (RoseAt early now) old between new why front (put_fails_since (manifest_put d) early late now between new why falls fails))
+desk_puts : (d : DeskSeen) (script : Recipe) (es : List Entry) (fs : List FrameSeen) → AreOf d script es fs → puts_of script es fs ≡ desk_files d
+desk_puts d script es fs are =
+    ap (λ x. puts_of x es fs) are.script_is ∙ ap (λ x. puts_of d.subject.script x fs) are.journal_is ∙ ap (λ x. puts_of d.subject.script d.journal x) are.frames_are
+    ∙ ap (λ ps. ps ++ manifest_put d.subject.script d.journal ∷ []) (frames_put d.subject (lines d.subject.script d.journal))
+
+pub desk_put : (d : DeskSeen) (script : Recipe) (es : List Entry) (fs : List FrameSeen) (old between new : Option Files) → AreOf d script es fs
+    → ArePut (map (frame_put script) fs) old between → Puts (manifest_put script es).0 (manifest_put script es).1 between new → ArePut (desk_files d) old new
+desk_put d script es fs old between new are front last =
+    subst (λ ps. ArePut ps old new) (desk_puts d script es fs are) (put_further (map (frame_put script) fs) (manifest_put script es) old between new front last)
+
+pub desk_cut : (d : DeskSeen) (script : Recipe) (es : List Entry) (fs : List FrameSeen) (rose : List ℕ → Type 0) (old new : Option Files) (why : PutEnd) → AreOf d script es fs
+    → AreCutShort (map (frame_put script) fs) rose old new why → AreCutShort (desk_files d) rose old new why
+desk_cut d script es fs rose old new why are cut =
+    subst (λ ps. AreCutShort ps rose old new why) (desk_puts d script es fs are) (cut_before (map (frame_put script) fs) (manifest_put script es) rose old new why cut)
+
+pub desk_cut_at_last : (d : DeskSeen) (script : Recipe) (es : List Entry) (fs : List FrameSeen) (early late now : List ℕ → ℕ) (old between new : Option Files) (why : PutEnd)
+    → AreOf d script es fs → NoneFalls early late → ArePut (map (frame_put script) fs) old between → PutFails (manifest_put script es) (RoseAt late now) between new why
+    → AreCutShort (desk_files d) (RoseAt early now) old new why
+desk_cut_at_last d script es fs early late now old between new why are falls front fails =
+    subst (λ ps. AreCutShort ps (RoseAt early now) old new why) (desk_puts d script es fs are)
+    (cut_at_last (map (frame_put script) fs) (manifest_put script es) (RoseAt early now) old between new why front
+    (put_fails_since (manifest_put script es) early late now between new why falls fails))
+
+-- ---- the tickets of a desk are the script's
+
+pub desk_jobs : (d : DeskSeen) (script : Recipe) (es : List Entry) (fs : List FrameSeen) → AreOf d script es fs → Legal d.subject.script d.journal → All (λ (f : FrameSeen). HasJob script f.name) fs
+desk_jobs d script es fs are legal =
+    subst (λ r. All (λ (f : FrameSeen). HasJob r f.name) fs) (sym are.script_is)
+    (All-same (λ (f : FrameSeen). HasJob d.subject.script f.name) fs (frames_of d.subject d.journal) are.frames_are
+    (All-map (λ (f : FrameSeen). HasJob d.subject.script f.name) (line_frame d.subject) (lines d.subject.script d.journal) (legal_jobs d.subject.script d.journal legal)))
+
+pub desk_done : (d : DeskSeen) (script : Recipe) (es : List Entry) (fs : List FrameSeen) → AreOf d script es fs → Legal d.subject.script d.journal → All (HasDone script) es
+desk_done d script es fs are legal =
+    subst (λ r. All (HasDone r) es) (sym are.script_is) (subst (All (HasDone d.subject.script)) (sym are.journal_is) (legal_done d.subject.script d.journal legal))

@@ -3,7 +3,9 @@ use Rattle.std.specs.Prelude.{◌≡◌, ℕ, List, [], ◌∷◌, ◌++◌, tak
 use Rattle.outside.specs.Faults.{Rose}
 use Rattle.outside.specs.Shelf.{Files, with_files, PutsInPart}
 use Rattle.dev_core.specs.Subject.{SubjectSeen, shown}
-use Rattle.dev_core.specs.Lines.{Line, lines}
+use Rattle.edit_steps.specs.Script.{Recipe}
+use Rattle.journal.specs.declared.entry.Entry.{Entry}
+use Rattle.journal.specs.Lines.{Line, lines}
 use Rattle.dev_core.specs.DeskState.{DeskSeen}
 use Rattle.dev_core.specs.Jobs.{FrameSeen}
 use Rattle.publish.specs.declared.put_end.PutEnd.{PutEnd}
@@ -17,19 +19,19 @@ Put = List ℕ × List ℕ
 
 -- the put of a line: its file, and the bytes that its job shows at its moment
 abbrev pub put_of : SubjectSeen → Line → Put
-put_of s l = (job_file l.job l.moment, shown s l.job l.moment)
+put_of s l = (job_file s.script l.job l.moment, shown s l.job l.moment)
 
 -- a file for each line in order, and last the manifest
 abbrev pub files : SubjectSeen → List Line → List Put
-files s ls = map (put_of s) ls ++ (manifest_file, manifest_of ls) ∷ []
+files s ls = map (put_of s) ls ++ (manifest_file, manifest_of s.script ls) ∷ []
 
 -- the put of a frame
-abbrev pub frame_put : FrameSeen → Put
-frame_put f = (job_file f.name f.moment, shown f.subject f.name f.moment)
+abbrev pub frame_put : Recipe → FrameSeen → Put
+frame_put script f = (job_file script f.name f.moment, shown f.subject f.name f.moment)
 
--- the put of a desk's manifest
-abbrev pub manifest_put : DeskSeen → Put
-manifest_put d = (manifest_file, manifest_of (lines d.subject.script d.journal))
+-- the put of a journal's manifest
+abbrev pub manifest_put : Recipe → List Entry → Put
+manifest_put script es = (manifest_file, manifest_of script (lines script es))
 
 -- the files of a desk's journal
 abbrev pub desk_files : DeskSeen → List Put

@@ -4,27 +4,32 @@ use Rattle.std.specs.Fmt.{decimal}
 use Rattle.outside.specs.declared.job_name.JobName.{JobName}
 use Rattle.outside.specs.declared.job_name.JobName.TheVariants as job
 use Rattle.outside.specs.declared.job_name.Pipe.{Pipe}
-use Rattle.dev_core.specs.Lines.{Line}
-use Rattle.publish.specs.Names.{pipe_word, pipe_file, ticket_file}
+use Rattle.edit_steps.specs.Script.{Recipe}
+use Rattle.journal.specs.Lines.{Line}
+use Rattle.journal.specs.Pipes.{word_of}
+use Rattle.publish.specs.Names.{pipe_file, ticket_word, ticket_file}
 
-abbrev pub pipe_line : Pipe → ℕ → List ℕ
-pipe_line p m = pipe_word p ++ (codes " " ++ (decimal m ++ (codes " " ++ (pipe_file p m ++ codes "\n"))))
+-- a pipe, its moment and its file
+abbrev pub pipe_text : Pipe → ℕ → List ℕ
+pipe_text p m = word_of p ++ (codes " " ++ (decimal m ++ (codes " " ++ (pipe_file p m ++ codes "\n"))))
 
-abbrev pub ticket_line : ℕ → ℕ → List ℕ
-ticket_line t m = codes "ticket " ++ (decimal t ++ (codes " " ++ (decimal m ++ (codes " " ++ (ticket_file t ++ codes "\n")))))
+-- what a ticket asked for, its number, its moment and its file
+abbrev pub ticket_text : Recipe → ℕ → ℕ → List ℕ
+ticket_text script t m =
+    ticket_word script t ++ (codes " " ++ (decimal t ++ (codes " " ++ (decimal m ++ (codes " " ++ (ticket_file script t ++ codes "\n"))))))
 
 -- what was made, its moment and its file
-abbrev pub job_line : JobName → ℕ → List ℕ
-job_line (job.Pipe p) m = pipe_line p m
-job_line (job.Ticket t) m = ticket_line t m
+abbrev pub job_text : Recipe → JobName → ℕ → List ℕ
+job_text script (job.Pipe p) m = pipe_text p m
+job_text script (job.Ticket t) m = ticket_text script t m
 
-abbrev pub lines_text : List Line → List ℕ
-lines_text [] = []
-lines_text (l ∷ ls) = job_line l.job l.moment ++ lines_text ls
+abbrev pub lines_text : Recipe → List Line → List ℕ
+lines_text script [] = []
+lines_text script (l ∷ ls) = job_text script l.job l.moment ++ lines_text script ls
 
 -- the last line, with how many there are before it
 abbrev pub end_line : ℕ → List ℕ
 end_line count = codes "end " ++ (decimal count ++ codes "\n")
 
-abbrev pub manifest_of : List Line → List ℕ
-manifest_of ls = lines_text ls ++ end_line (length ls)
+abbrev pub manifest_of : Recipe → List Line → List ℕ
+manifest_of script ls = lines_text script ls ++ end_line (length ls)

@@ -1,10 +1,12 @@
 //! The puts of a session: each file in the journal's order, and last the manifest.
 ghost use Rattle.std.specs.Prelude.{◌≡◌, List, map, IfErr, OnOk, IfOk, string_bytes};
+ghost use Rattle.std.specs.List.{All};
 ghost use Rattle.outside.specs.Faults.{NoneFalls};
 ghost use Rattle.outside.specs.Shelf.{Puts};
 ghost use Rattle.dev_core.specs.Subject.{shown};
-ghost use Rattle.dev_core.specs.Lines.{lines, frames_of};
-ghost use Rattle.publish.specs.Names.{job_file, manifest_file};
+ghost use Rattle.journal.specs.Lines.{lines};
+ghost use Rattle.dev_core.specs.Lines.{frames_of};
+ghost use Rattle.publish.specs.Names.{job_file, manifest_file, HasJob, HasDone};
 ghost use Rattle.publish.specs.Manifest.{manifest_of};
 ghost use Rattle.publish.specs.Files.{ArePut, AreCutShort, PutFails, RoseAt, desk_files, frame_put, manifest_put};
 
@@ -12,6 +14,8 @@ use crate::listing::manifest;
 use crate::names::{MANIFEST, job_file};
 use crate::put_end::PutEnd;
 use dev_core::{DeskState, Frame};
+use edit_steps::Script;
+use journal::Entry;
 use outside::{Failed, Name, Shelf};
 use std::alloc::Global;
 
@@ -38,37 +42,55 @@ pub fn put_file<S: Shelf>(
 }
 
 // Puts the file of a frame.
-fn put_frame<S: Shelf>(alloc: Global, shelf: &mut S, frame: &Frame) -> Result<(), PutEnd>
-    ensures ok { OnOk result (Puts (frame_put frame.now).0 (frame_put frame.now).1 (S.files shelf.old) (S.files shelf.new)) }
-    ensures cause { IfErr result (PutFails (frame_put frame.now) (RoseAt (S.put_faults shelf.old) (S.put_faults shelf.new)) (S.files shelf.old) (S.files shelf.new)) }
+fn put_frame<S: Shelf>(
+    alloc: Global,
+    shelf: &mut S,
+    script: &Script,
+    frame: &Frame,
+) -> Result<(), PutEnd>
+    requires { HasJob script.now frame.now.name }
+    ensures ok { OnOk result (Puts (frame_put script.now frame.now).0 (frame_put script.now frame.now).1 (S.files shelf.old) (S.files shelf.new)) }
+    ensures cause { IfErr result (PutFails (frame_put script.now frame.now) (RoseAt (S.put_faults shelf.old) (S.put_faults shelf.new)) (S.files shelf.old) (S.files shelf.new)) }
     ensures reads { NoneFalls (S.read_faults shelf.old) (S.read_faults shelf.new) }
     ensures puts { NoneFalls (S.put_faults shelf.old) (S.put_faults shelf.new) }
 {
-    let name = job_file(alloc, frame.name(), frame.moment())?;
+    let name = job_file(alloc, script, frame.name(), frame.moment())?;
     put_file(alloc, shelf, name.as_str(), frame.bytes())
 }
 
 // Puts the files of frames, one after the other.
-fn put_frames<S: Shelf>(alloc: Global, shelf: &mut S, frames: &[Frame]) -> Result<(), PutEnd>
-    ensures ok { OnOk result (ArePut (map frame_put frames.now) (S.files shelf.old) (S.files shelf.new)) }
-    ensures cause { IfErr result (AreCutShort (map frame_put frames.now) (RoseAt (S.put_faults shelf.old) (S.put_faults shelf.new)) (S.files shelf.old) (S.files shelf.new)) }
+fn put_frames<S: Shelf>(
+    alloc: Global,
+    shelf: &mut S,
+    script: &Script,
+    frames: &[Frame],
+) -> Result<(), PutEnd>
+    requires { All (λ f. HasJob script.now f.name) frames.now }
+    ensures ok { OnOk result (ArePut (map (frame_put script.now) frames.now) (S.files shelf.old) (S.files shelf.new)) }
+    ensures cause { IfErr result (AreCutShort (map (frame_put script.now) frames.now) (RoseAt (S.put_faults shelf.old) (S.put_faults shelf.new)) (S.files shelf.old) (S.files shelf.new)) }
     ensures reads { NoneFalls (S.read_faults shelf.old) (S.read_faults shelf.new) }
     ensures puts { NoneFalls (S.put_faults shelf.old) (S.put_faults shelf.new) }
 {
     for frame in frames {
-        put_frame(alloc, shelf, frame)?;
+        put_frame(alloc, shelf, script, frame)?;
     }
     Ok(())
 }
 
-// Puts the manifest of a desk.
-fn put_manifest<S: Shelf>(alloc: Global, shelf: &mut S, desk: &DeskState) -> Result<(), PutEnd>
-    ensures ok { OnOk result (Puts (manifest_put desk.now).0 (manifest_put desk.now).1 (S.files shelf.old) (S.files shelf.new)) }
-    ensures cause { IfErr result (PutFails (manifest_put desk.now) (RoseAt (S.put_faults shelf.old) (S.put_faults shelf.new)) (S.files shelf.old) (S.files shelf.new)) }
+// Puts the manifest of a journal.
+fn put_manifest<S: Shelf>(
+    alloc: Global,
+    shelf: &mut S,
+    script: &Script,
+    journal: &[Entry],
+) -> Result<(), PutEnd>
+    requires { All (HasDone script.now) journal.now }
+    ensures ok { OnOk result (Puts (manifest_put script.now journal.now).0 (manifest_put script.now journal.now).1 (S.files shelf.old) (S.files shelf.new)) }
+    ensures cause { IfErr result (PutFails (manifest_put script.now journal.now) (RoseAt (S.put_faults shelf.old) (S.put_faults shelf.new)) (S.files shelf.old) (S.files shelf.new)) }
     ensures reads { NoneFalls (S.read_faults shelf.old) (S.read_faults shelf.new) }
     ensures puts { NoneFalls (S.put_faults shelf.old) (S.put_faults shelf.new) }
 {
-    let bytes = manifest(alloc, desk.journal(), desk.subject().script())?;
+    let bytes = manifest(alloc, journal, script)?;
     put_file(alloc, shelf, MANIFEST, bytes.as_slice())
 }
 
@@ -81,6 +103,8 @@ pub fn write_all<S: Shelf>(alloc: Global, desk: &DeskState, shelf: &mut S) -> Re
     ensures reads { NoneFalls (S.read_faults shelf.old) (S.read_faults shelf.new) }
     ensures puts { NoneFalls (S.put_faults shelf.old) (S.put_faults shelf.new) }
 {
-    put_frames(alloc, shelf, desk.frames())?;
-    put_manifest(alloc, shelf, desk)
+    let script = desk.subject().script();
+    let journal = desk.journal();
+    put_frames(alloc, shelf, script, desk.frames())?;
+    put_manifest(alloc, shelf, script, journal)
 }

@@ -2,7 +2,7 @@
 use Rattle.std.proofs.Common.{◌≡◌, ℕ, zero, suc, ◌+◌, ◌<◌, ◌≤◌, Bool, true, false, List, [], ◌∷◌, ◌++◌, length, take, drop, slice_get, get_or, Option, Some, None, refl, sym, ap, ◌∙◌, subst, arith, add-one}
 use Rattle.std.proofs.lemmas.List.{length-take}
 use Rattle.std.proofs.lemmas.Option.{slice_get-get_or, slice_get_read, slice_get_within}
-use Rattle.px.specs.Area.{Area}
+use Rattle.px.specs.Area.{Area, IsIn}
 use Rattle.px.specs.Cut.{Cut}
 use Rattle.pipe_nodes.specs.declared.active.Active.{Active}
 use Rattle.pipe_nodes.specs.declared.show.Show.{Show}
@@ -10,6 +10,7 @@ use Rattle.pipe_nodes.specs.Applied.{CanApply}
 use Rattle.pipe_nodes.specs.Prefix.{PrefixSeen, prefix}
 use Rattle.pipe_nodes.specs.Staged.{IsRight, StagedSeen}
 use Rattle.std.specs.Prelude.{is_some, IfSome, IsSome, IsSomeAnd}
+use Rattle.pipe_run.specs.Planned.{sides_at, AreInside}
 use Rattle.pipe_run.specs.Running.{Ends, IsPlan, RunsAt}
 use Rattle.pipe_run.proofs.StageLemmas.{begins, can-next, ends, runs-next}
 use Rattle.stage_cache.specs.Stages.{Stage}
@@ -157,3 +158,16 @@ unkept-entry source show actives regions None unkept h = tt
 unkept-entry source show actives regions (Some s) unkept h = λ yes.
     let stage : IsStageOf source show actives regions true s = subst (λ u. IsStageOf source show actives regions u s) yes h.stage in
     ap is_some (entry-is source show actives regions s h.plan stage)
+
+-- ---- beginning
+
+-- the first region lies in the level's picture
+first-of : (actives : List Active) (sides : ℕ × ℕ) (regions : List Area) (r : Area) → AreInside actives sides regions → r ≡ get_or regions 0 r → IsIn r sides.0 sides.1
+first-of actives sides [] r inside r_is = absurd inside
+first-of [] sides (a ∷ behind) r inside r_is = subst (λ x. IsIn x sides.0 sides.1) (sym r_is) inside
+first-of (m ∷ later) sides (a ∷ behind) r inside r_is = subst (λ x. IsIn x sides.0 sides.1) (sym r_is) inside.0
+
+pub first-inside : (source : Cut) (show : Show) (actives : List Active) (regions : List Area) (staged : Option StagedSeen) (unkept : Bool) (old : StageRunSeen) (r : Area) → stage_run source show actives staged unkept ≡ old
+    → Holds source show actives regions staged unkept → r ≡ get_or regions 0 r → IsIn r (sides_at old.source old.show.level).0 (sides_at old.source old.show.level).1
+first-inside source show actives regions staged unkept old r old_is h r_is =
+    subst (λ (x : StageRunSeen). IsIn r (sides_at x.source x.show.level).0 (sides_at x.source x.show.level).1) old_is (first-of actives (sides_at source show.level) regions r h.plan.inside r_is)

@@ -1,11 +1,13 @@
 ghost use Rattle.std.specs.Prelude.{◌≡◌, ◌+◌, ◌<◌, ◌≤◌, length, slice_get, is_ok, true, false, IfOk, IfSome, IsSome, IsSomeAnd, OnOk, OnErr, Some, None, if◌then◌else◌};
 ghost use Rattle.std.specs.Arc.{arc_value};
+ghost use Rattle.px.specs.Area.{IsIn};
 ghost use Rattle.px.specs.Cut.{picture_of};
 ghost use Rattle.pnm.specs.Pnm.{written};
 ghost use Rattle.pipe_nodes.specs.Actives.{actives_of};
 ghost use Rattle.pipe_nodes.specs.Staged.{IsRight};
 ghost use Rattle.pipe_nodes.specs.Whole.{whole};
 ghost use Rattle.pipe_nodes.specs.Windows.{CanShow, windowed};
+ghost use Rattle.pipe_run.specs.Planned.{sides_at};
 ghost use Rattle.stage_cache.specs.Stages.{found_index, stages_after_find};
 ghost use Rattle.stage_run.specs.Asked.{regions_of};
 ghost use Rattle.stage_run.specs.StageRun.{IsInput, IsKept, IsStageRun, asked, at_of, entry_of, found_stage, kept_at, on_stage, stage_at};
@@ -120,7 +122,8 @@ impl StageRun {
 
     /// The region of its level that it begins with.
     pub fn first_region(&self) -> Region
-        ensures { slice_get (regions_of self.now.source self.now.show self.now.actives) 0 ≡ Some result }
+        ensures first { slice_get (regions_of self.now.source self.now.show self.now.actives) 0 ≡ Some result }
+        ensures inside { IsIn result (sides_at self.now.source self.now.show.level).0 (sides_at self.now.source self.now.show.level).1 }
     {
         self.regions[0]
     }

@@ -1,3 +1,9 @@
-pub mod MachineLemmas
-pub mod RunLemmas
-pub mod ReadLemmas
+pub mod SeatLemmas
+pub mod RowLemmas
+pub mod DeskRowLemmas
+pub mod OpenRunLemmas
+pub mod StageRowLemmas
+pub mod LevelRowLemmas
+pub mod OutcomeLemmas
+pub mod StartLemmas
+pub mod SubjectLemmas

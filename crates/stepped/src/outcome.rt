@@ -2,9 +2,10 @@ ghost use Rattle.std.specs.Prelude.{◌≡◌, IfOk};
 ghost use Rattle.std.specs.Arc.{arc_value};
 ghost use Rattle.stepped.specs.Outcome.{start_of, IsStep, IsRun};
 
-use crate::event::{Answer, Event, StepEnd};
+use crate::answer::{Answer, StepEnd};
 use crate::machine::Machine;
 use dev_core::{DeskState, Roomy, Subject};
+use events::Event;
 use std::alloc::{AllocError, Global};
 use std::marker::Model;
 use std::sync::Arc;
@@ -74,11 +75,10 @@ impl Outcome {
     ) -> Result<(), StepEnd>
         ensures { IsStep self.old event self.new result }
     {
-        if !self.machine.allows(event) {
-            return Err(StepEnd::NotAllowed { place: 1 });
-        }
         self.answers.make_room(1)?;
-        let answer = self.machine.apply(rt, alloc, event)?;
+        let Some(answer) = self.machine.apply(rt, alloc, event)? else {
+            return Err(StepEnd::NotAllowed { place: 1 });
+        };
         self.answers.add(answer);
         let count = self.answers.len() as u64;
         if let Event::Node { worker: _ } = event {

@@ -11,6 +11,8 @@ mod geometry_tests;
 #[cfg(test)]
 mod history_tests;
 #[cfg(test)]
+mod level_store_tests;
+#[cfg(test)]
 mod local_modules_tests;
 #[cfg(test)]
 mod masks_tests;

@@ -1,4 +1,3 @@
-use Rattle.std.proofs.Common.{subst}
 use Rattle.std.proofs.lemmas.Option.{IfSome_then}
 use Rattle.px.specs.Cut.{picture_of}
 use Rattle.develop_session.proofs.ReadLemmas.{has_source, has_bad_source}

@@ -5,7 +5,7 @@ use Rattle.publish.proofs.putting.put_frames.Given as goal
 
 abbrev pub invariant-loop-frame : goal.invariant-loop-frame
 invariant-loop-frame g l = record {
-  front : ArePut (map frame_put (take l.frame-index l.frames)) (g.S.Shelf.files l.fn.shelf) (g.S.Shelf.files l.shelf);
+  front : ArePut (map (frame_put l.script) (take l.frame-index l.frames)) (g.S.Shelf.files l.fn.shelf) (g.S.Shelf.files l.shelf);
   reads : NoneFalls (g.S.Shelf.read_faults l.fn.shelf) (g.S.Shelf.read_faults l.shelf);
   puts : NoneFalls (g.S.Shelf.put_faults l.fn.shelf) (g.S.Shelf.put_faults l.shelf);
 }

@@ -1,9 +1,10 @@
-use Rattle.stepped.proofs.RunLemmas.{run_from_start, run_further, run_refused, run_stopped, run_done}
-use Rattle.stepped.specs.declared.event.Event.TheVariants.{Editor}
+use Rattle.std.proofs.Common.{refl}
+use Rattle.stepped.proofs.OutcomeLemmas.{run_further, run_refused, run_stopped, run_done}
+use Rattle.events.specs.declared.event.Event.TheVariants.{Editor}
 use Rattle.stepped.proofs.outcome.stepped.Goals as goal
 
 pub loop-i-init : goal.loop-i-init
-loop-i-init g c = run_from_start c.args.outcome.now c.args.events.now
+loop-i-init g c = refl
 
 pub returns-in-Err-Memory : goal.returns-in-Err-Memory
 returns-in-Err-Memory g c = run_stopped c.args.outcome.now c.loop-i.outcome _ c.args.events.now c.loop-i.i c.loop-i.invariant (rw c.in-Err-Memory.field-0-is at c.in-Err-Memory.ensures)
@@ -15,7 +16,7 @@ returns-in-Err-NotAllowed g c =
 
 pub loop-i-preserved : goal.loop-i-preserved
 loop-i-preserved g c =
-    run_further c.args.outcome.now c.loop-i.outcome _ c.args.events.now c.loop-i.i Editor c.loop-i.invariant c.loop-i-test.true c.in-Ok.ensures.0 c.in-Ok.ensures.1
+    run_further c.args.outcome.now c.loop-i.outcome _ c.args.events.now c.loop-i.i Editor c.loop-i.invariant c.loop-i-test.true c.in-Ok.ensures
 
 pub returns : goal.returns
 returns g c = run_done c.args.outcome.now c.loop-i.outcome c.args.events.now c.loop-i.i c.loop-i.invariant c.loop-i-test.false

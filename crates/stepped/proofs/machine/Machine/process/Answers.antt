@@ -1,33 +1,37 @@
-use Rattle.std.proofs.Common.{◌∙◌, refl, ap, sym, subst}
-use Rattle.std.specs.Prelude.{◌≡◌, false}
-use Rattle.dev_core.specs.Subject.{SubjectSeen}
-use Rattle.stepped.proofs.MachineLemmas.{seated_changed, changed_seen, of_run}
-use Rattle.stepped.specs.declared.event.Event.TheVariants as event
-use Rattle.stepped.specs.declared.open_run.OpenRun.{OpenRun}
-use Rattle.stepped.specs.Machine.{IsFrameOf, run_seen}
-use Rattle.stepped.specs.Step.{Core, IsAllowed, IsBefore, actives_at, core_after, processed}
+use Rattle.std.proofs.Common.{◌≡◌, Some, true, refl, sym, ap, subst, ◌∙◌}
+use Rattle.std.specs.Prelude.{not, ◌&&◌, nat_lt}
+use Rattle.events.specs.declared.event.Event.TheVariants as event
+use Rattle.stepped.specs.Machine.{OpenSeen, active_count_of}
+use Rattle.stepped.specs.Step.{at_stage}
+use Rattle.stepped.proofs.StageRowLemmas.{changed, unchanged, makes_err, run_same, node_made}
 use Rattle.stepped.proofs.machine.Machine.process.Goals as goal
 
-pub process-requires : goal.process-requires
-process-requires c =
-    let s = c.self.inside in
-    let o = c.take_run-run.result in
-    let allowed = subst (λ (v : Core). IsAllowed v (event.Node c.args.worker)) (sym c.self.view_is) c.requires in
-    let before = of_run s.desk s.runs.items c.args.worker o (λ r. IsBefore r.stage (actives_at s.desk.subject.script r.moment) × (r.framed ≡ false)) c.take_run-run.ensures.run allowed.1 in
-    subst (λ (x : SubjectSeen). IsBefore o.stage (actives_at x.script o.job.moment)) (sym (c.self.invariant.are_open.open_runs c.args.worker o c.take_run-run.ensures.run).subject) before.0
-
 pub invariant_of-self : goal.invariant_of-self
-invariant_of-self c =
+invariant_of-self g c =
     let s = c.self.inside in
-    let o = c.take_run-run.result in
-    seated_changed s.desk s.runs.items _ _ c.args.worker o c.process.new.self c.self.invariant c.take_run-run.ensures.run c.take_run-run.ensures.items c.put_run.ensures
-    (ap (λ (x : OpenRun). x.job) c.process.ensures) (subst (λ (x : OpenRun). IsFrameOf x.frame o.job) (sym c.process.ensures) (c.self.invariant.are_open.open_runs c.args.worker o c.take_run-run.ensures.run).frame)
+    (unchanged s.desk s.runs.items c.take_run-run.new.runs.items c.put_run.new.runs.items s.cache s.cache s.levels c.args.worker c.take_run-run.result c.process-done.new.self c.self.invariant
+    c.take_run-run.ensures.run c.take_run-run.ensures.items c.put_run.ensures c.in_err-done.ensures.err refl).keeps
+
+pub returns-in_err-done : goal.returns-in_err-done
+returns-in_err-done g c =
+    let s = c.self.inside in
+    makes_err c.args.self.now _ (event.Node c.args.worker) c.from_residual.result c.from_residual.ensures.0
+    ((unchanged s.desk s.runs.items c.take_run-run.new.runs.items c.put_run.new.runs.items s.cache s.cache s.levels c.args.worker c.take_run-run.result c.process-done.new.self c.self.invariant
+    c.take_run-run.ensures.run c.take_run-run.ensures.items c.put_run.ensures c.in_err-done.ensures.err refl).seen ∙ c.self.view_is)
+
+pub invariant_of-self-2 : goal.invariant_of-self-2
+invariant_of-self-2 g c =
+    let s = c.self.inside in
+    (changed s.desk s.runs.items c.take_run-run.new.runs.items c.put_run.new.runs.items s.cache s.cache s.levels c.args.worker c.take_run-run.result c.process-done.new.self (s.cache.stages) c.self.invariant
+    c.take_run-run.ensures.run c.take_run-run.ensures.items c.put_run.ensures (ap (λ (x : OpenSeen). x.job) c.in_ok-done.ensures.ok) refl).keeps
 
 pub returns : goal.returns
-returns c =
+returns g c =
     let s = c.self.inside in
-    let o = c.take_run-run.result in (
-      changed_seen s.desk s.runs.items _ _ c.args.worker o c.process.new.self processed c.take_run-run.ensures.run c.take_run-run.ensures.items c.put_run.ensures (ap run_seen c.process.ensures)
-          ∙ ap (λ (v : Core). core_after v (event.Node c.args.worker)) c.self.view_is,
-      refl,
-    )
+    let o = c.take_run-run.result in
+    let same : c.in-Some.run'.now ≡ o = run_same s.runs.items c.deref.result.now c.args.worker c.in-Some.run'.now o c.in-Some.ensures c.deref.ensures.value c.take_run-run.ensures.run in
+    let may : (at_stage o.stage (λ a. nat_lt a.done (active_count_of o.job)) && not o.framed) ≡ true =
+    subst (λ (r : OpenSeen). (at_stage r.stage (λ a. nat_lt a.done (active_count_of r.job)) && not r.framed) ≡ true) same (sym c.may_process.ensures ∙ c.if-not-may_process.false) in
+    node_made s.desk s.runs.items c.put_run.new.runs.items s.cache s.levels c.args.worker o c.process-done.new.self c.args.self.now c.self.view_is c.take_run-run.ensures.run c.self.invariant.seated may c.in_ok-done.ensures.ok
+    (changed s.desk s.runs.items c.take_run-run.new.runs.items c.put_run.new.runs.items s.cache s.cache s.levels c.args.worker c.take_run-run.result c.process-done.new.self (s.cache.stages) c.self.invariant
+    c.take_run-run.ensures.run c.take_run-run.ensures.items c.put_run.ensures (ap (λ (x : OpenSeen). x.job) c.in_ok-done.ensures.ok) refl)

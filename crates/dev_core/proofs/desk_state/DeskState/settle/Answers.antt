@@ -1,0 +1,12 @@
+use Rattle.std.proofs.Common.{◌≡◌, ◌+◌, ◌++◌, ◌∷◌, [], ◌∙◌, ap, sym, subst, refl, arith, length}
+use Rattle.std.specs.Arc.{arc_value}
+use Rattle.journal.specs.declared.entry.Entry.TheVariants as entry
+use Rattle.journal.specs.Desk.{May, IsSuperseded, next}
+use Rattle.dev_core.proofs.DeskLemmas.{at_desk, keeps_settled}
+use Rattle.dev_core.proofs.desk_state.DeskState.settle.Goals as goal
+
+pub invariant_of-self-2 : goal.invariant_of-self-2
+invariant_of-self-2 c =
+    let s = c.self.inside in
+    let may = at_desk (arc_value s.subject) s.step_count s.journal s.frames s.desk s.histories _ (λ script d. May script d entry.Settled) c.self.view_is c.self.invariant c.requires in
+    keeps_settled (arc_value s.subject) s.step_count s.journal s.frames s.desk s.histories c.self.invariant _ _ _ may c.make_room.ensures.items (omega (arith, c.in_ok-make_room.ensures.ok, c.ticket_count.ensures)) c.add.ensures.items c.add.ensures.room c.note.ensures
