@@ -3,3 +3,4 @@ pub mod PutLemmas
 pub mod PictureLemmas
 pub mod ReplayLemmas
 pub mod CompleteLemmas
+pub mod NumberLemmas

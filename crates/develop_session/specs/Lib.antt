@@ -8,3 +8,4 @@ pub mod Answers
 pub mod Replies
 pub mod Names
 pub mod Complete
+pub mod Generation

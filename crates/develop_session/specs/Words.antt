@@ -1,5 +1,5 @@
 -- the words of a command
-use Rattle.std.specs.Prelude.{ℕ, List, [], ◌∷◌, Option, Some, None, codes, bytes_eq, map, string_bytes, String, if◌then◌else◌}
+use Rattle.std.specs.Prelude.{ℕ, ◌+◌, ◌-◌, ◌*◌, nat_le, Bool, ◌&&◌, List, [], ◌∷◌, length, Option, Some, None, codes, bytes_eq, map, string_bytes, String, if◌then◌else◌}
 use Rattle.std.specs.declared.alloc.Global.{Global}
 
 -- `develop` with its three names
@@ -27,3 +27,22 @@ command_of _ = None
 abbrev pub replay_of : List (List ℕ) → Option Replay
 replay_of (word ∷ script ∷ source ∷ events ∷ []) = if bytes_eq word (codes "stepped") then Some (record { script = script; source = source; events = events }) else None
 replay_of _ = None
+
+-- ---- generate
+
+abbrev pub is_digit : ℕ → Bool
+is_digit b = nat_le 48 b && nat_le b 57
+
+-- the number that further digits make of this one
+abbrev pub number_from : ℕ → List ℕ → Option ℕ
+number_from n [] = Some n
+number_from n (b ∷ bs) = if is_digit b then number_from (n * 10 + (b - 48)) bs else None
+
+-- the number of 1 to 9 decimal digits
+abbrev pub number_in : List ℕ → Option ℕ
+number_in digits = if nat_le 1 (length digits) && nat_le (length digits) 9 then number_from 0 digits else None
+
+-- the number of a `generate`
+abbrev pub number_of : List (List ℕ) → Option ℕ
+number_of (word ∷ digits ∷ []) = if bytes_eq word (codes "generate") then number_in digits else None
+number_of _ = None

@@ -1,5 +1,5 @@
 ghost use Rattle.std.specs.Prelude.{◌≡◌, option_map};
-ghost use Rattle.develop_session.specs.Words.{command_of, replay_of, texts};
+ghost use Rattle.develop_session.specs.Words.{command_of, replay_of, number_in, number_of, texts};
 ghost use Rattle.develop_session.specs.Names.{command, replay};
 
 // The names of a `develop` command.
@@ -50,4 +50,35 @@ pub(crate) fn replay_names_of(words: &[String]) -> Option<ReplayNames<'_>>
         source: source.as_str(),
         events: events.as_str(),
     })
+}
+
+// The number of 1 to 9 decimal digits that the word is, if it is one.
+fn number_in(word: &str) -> Option<u32>
+    ensures { result ≡ number_in word.now }
+{
+    let digits = word.as_bytes();
+    if digits.is_empty() || digits.len() > 9 {
+        return None;
+    }
+    let mut number = 0;
+    for digit in digits {
+        if *digit < 48 || *digit > 57 {
+            return None;
+        }
+        number = number * 10 + u32::from(*digit - 48);
+    }
+    Some(number)
+}
+
+// The number of the `generate` that the words are, if they are one.
+pub(crate) fn number_of(words: &[String]) -> Option<u32>
+    ensures { result ≡ number_of (texts words.now) }
+{
+    let [word, digits] = words else {
+        return None;
+    };
+    if word.as_str() != "generate" {
+        return None;
+    }
+    number_in(digits.as_str())
 }

@@ -4,6 +4,7 @@
 mod command;
 mod develop;
 mod devices;
+mod generation;
 mod inputs;
 mod replay;
 mod status;
@@ -11,6 +12,7 @@ mod tally;
 mod words;
 
 pub use develop::develop_once;
+pub use generation::generate;
 pub use replay::run_stepped;
 pub use status::Status;
 pub use words::run_words;
