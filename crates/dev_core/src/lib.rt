@@ -12,6 +12,7 @@ mod next;
 mod room;
 mod showing;
 mod subject;
+mod told;
 
 pub use desk_state::DeskState;
 pub use frame::Frame;

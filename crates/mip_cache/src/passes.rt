@@ -20,7 +20,9 @@ impl Model for WritePass {
 impl WritePass {
     ghost use Rattle.mip_cache.specs.Passes.{write_pass};
 
-    pub(crate) fn of(worker: u32, level: u8) -> WritePass
+    /// The pass of this worker for this level. A cache that is shared keeps in its story who writes which level, and makes
+    /// the pass anew where a call asks for it.
+    pub fn of(worker: u32, level: u8) -> WritePass
         ensures { result ≡ write_pass worker level }
     {
         WritePass { worker, level }
@@ -40,8 +42,8 @@ impl WritePass {
         self.level
     }
 
-    // Spends the pass.
-    pub(crate) fn spend(self) -> u8
+    /// Spends the pass, and says its level.
+    pub fn spend(self) -> u8
         ensures { result ≡ self.level }
     {
         let WritePass { worker: _, level } = self;
@@ -66,7 +68,8 @@ impl Model for ReadPass {
 impl ReadPass {
     ghost use Rattle.mip_cache.specs.Passes.{read_pass};
 
-    pub(crate) fn of(level: u8) -> ReadPass
+    /// A pass for this level, made anew as a `WritePass` is.
+    pub fn of(level: u8) -> ReadPass
         ensures { result ≡ read_pass level }
     {
         ReadPass { level }
@@ -79,8 +82,8 @@ impl ReadPass {
         self.level
     }
 
-    // Spends the pass.
-    pub(crate) fn spend(self) -> u8
+    /// Spends the pass, and says its level.
+    pub fn spend(self) -> u8
         ensures { result ≡ self.level }
     {
         let ReadPass { level } = self;

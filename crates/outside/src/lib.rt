@@ -2,7 +2,8 @@
 //!
 //! Both are traits whose calls may fail. A failed call shows its cause by a count of faults that
 //! rose. `MemoryShelf` and `MemorySaid` are told what they hold, and fail at chosen calls;
-//! `HostShelf` and `HostSaid` are real files and a real output.
+//! `HostShelf` and `HostSaid` are real files and a real output. A `Gate` is what the threads of a session
+//! pass on their way.
 #![tactic(auto)]
 
 mod answered;
@@ -10,6 +11,7 @@ mod beside;
 mod calls;
 mod failed;
 mod front;
+mod gate;
 mod host_files;
 mod host_said;
 mod host_shelf;
@@ -23,6 +25,7 @@ mod write_whole;
 
 pub use failed::Failed;
 pub use front::read_front;
+pub use gate::{Gate, OpenGate, Point};
 pub use host_said::HostSaid;
 pub use host_shelf::HostShelf;
 pub use job_name::{JobName, Pipe};

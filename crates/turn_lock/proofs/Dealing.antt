@@ -29,7 +29,7 @@ module _ {T N E : Type 0} where
   -- all passes of a new lock
   pub all_fresh : (table mid there : TableId) (seats : ℕ) (name : N) (mark past : ℕ) (me after : Me (Option T) (View N E)) → 0 < seats → mid ≡ table → there ≡ table
       → me ≡ (record (opener name) { mark = mark; ticket = None; past = past }, []) → after ≡ (record me.0 { count = seats }, [])
-      → known_of there seats after.0 ∷ map (λ k. record (known_of mid seats me.0) { number = k }) (range_with_len 1 (seats - 1)) ≡ map (fresh (record { table = table; seats = seats }) name mark) (range_with_len 0 seats)
+      → known_of there seats after.0 ∷ map (λ k. record (known_of mid seats me.0) { number = k }) (range_with_len 1 (seats - 1)) ≡ map (fresh (record { id = record { table = table; seats = seats }; name = name }) mark) (range_with_len 0 seats)
   all_fresh table mid there zero name mark past me after some same same' is is' = absurd (omega arith)
   all_fresh table mid there (suc n) name mark past me after some same same' is is' =
       let v : me.0 ≡ record (opener name) { mark = mark; ticket = None; past = past } = ap (λ m. m.0) is in

@@ -207,7 +207,12 @@ module _ {T N E : Type 0} (name_of : T → N) (story_of : T → List E) (bearer 
             (λ q from below. tickets_set s.views id v w q at live (λ h. h) (r.every q from below))
             r.nobody
             (⊎_elim (λ h. inl h) (λ o. inr (out_set s.homes s.views id v w at live (λ out. out) o)) r.place),
-        (refl, f.mark, λ (c : N) (is : v.name ≡ Some c). let e : called ≡ c = some_same f.name is in subst (λ (z : N). m.marked ≤ most z) e r.top),
+        (
+          refl,
+          f.mark,
+          (λ (c : N) (is : v.name ≡ Some c). let e : called ≡ c = some_same f.name is in subst (λ (z : N). m.marked ≤ most z) e r.top),
+          (λ is_out. sym (f.out is_out).3),
+        ),
       )
 
   -- the seat whose turn is out gives the value back, and the next ticket is served

@@ -7,7 +7,7 @@ pub record LockId : Type 0 where
   pub table : TableId
   pub seats : ℕ
 
--- a lock, with the name that its value bears
+-- a lock: which one it is, and the name that its value bears
 pub record Named (N : Type 0) : Type 0 where
   pub id : LockId
   pub name : N
@@ -28,9 +28,15 @@ pub record Known (N E : Type 0) : Type 0 where
 
 module _ {N E : Type 0} where
   -- a pass that was just made
-  abbrev pub fresh : LockId → N → ℕ → ℕ → Known N E
-  fresh lock name mark number = record { lock = lock; number = number; out = false; name = Some name; seen = []; mark = mark; own = []; turns = 0; loads = 0; loaded = 0 }
+  abbrev pub fresh : Named N → ℕ → ℕ → Known N E
+  fresh lock mark number = record { lock = lock.id; number = number; out = false; name = Some lock.name; seen = []; mark = mark; own = []; turns = 0; loads = 0; loaded = 0 }
+
+  -- a pass of this lock, whose name it has
+  pub record IsOf (lock : Named N) (p : Known N E) : Type 0 where
+    pub lock_is : p.lock ≡ lock.id
+    pub name_is : p.name ≡ Some lock.name
 
   -- a pass of this lock with no turn out
-  abbrev pub IsIdle : LockId → Known N E → Type 0
-  IsIdle lock p = (p.lock ≡ lock) × (p.out ≡ false)
+  pub record IsIdle (lock : Named N) (p : Known N E) : Type 0 where
+    pub is_of : IsOf lock p
+    pub waits : p.out ≡ false

@@ -3,7 +3,7 @@ use Rattle.std.specs.Prelude.{◌≡◌, ℕ, ◌<◌, ◌≤◌, true, false, [
 use Rattle.atomic_table.specs.Seated.{TableId}
 use Rattle.atomic_table.specs.Table.{Me}
 use Rattle.turn_lock.specs.declared.view.View.{View}
-use Rattle.turn_lock.specs.Known.{Known}
+use Rattle.turn_lock.specs.Known.{LockId, Known}
 
 -- the lock's table: three words and one slot
 abbrev pub IsSized : TableId → Type 0
@@ -13,6 +13,10 @@ module _ {N E : Type 0} where
   -- what contracts see of a pass with this view
   abbrev pub known_of : TableId → ℕ → View N E → Known N E
   known_of table seats v = record { lock = record { table = table; seats = seats }; number = v.number; out = v.out; name = v.name; seen = v.seen; mark = v.mark; own = v.own; turns = v.turns; loads = v.loads; loaded = v.loaded }
+
+  -- a pass of the lock with this table, with no turn out
+  abbrev pub IsResting : LockId → Known N E → Type 0
+  IsResting lock p = (p.lock ≡ lock) × (p.out ≡ false)
 
   module _ {T : Type 0} where
     -- the seat has the slot, whatever it holds

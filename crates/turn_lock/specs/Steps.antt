@@ -57,7 +57,7 @@ module _ {N E : Type 0} where
         (x : T) → m.1 ≡ (0, Some x) ∷ []
         → w ≡ (record m.0 { seen = story_of x; own = m.0.own ++ added m.0.seen (story_of x); ticket = None; out = false; past = n + 1 }, [])
 
-    -- the mark was read
+    -- the mark was read. While the seat's turn is out, it is the seat's own
     abbrev pub ReadMark : (N → ℕ) → Step (Option T) → Me (Option T) (View N E) → ℕ → Me (Option T) (View N E) → Type 0
     ReadMark most st m n w =
-        (w ≡ (record m.0 { mark = n; loads = m.0.loads + 1; loaded = n }, m.1)) × (m.0.mark ≤ n) × ((called : N) → m.0.name ≡ Some called → n ≤ most called)
+        (w ≡ (record m.0 { mark = n; loads = m.0.loads + 1; loaded = n }, m.1)) × (m.0.mark ≤ n) × ((called : N) → m.0.name ≡ Some called → n ≤ most called) × (m.0.out ≡ true → n ≡ m.0.mark)

@@ -1,7 +1,7 @@
 // How the passes come together again, and the value comes out.
 ghost use Rattle.std.specs.Prelude.{◌≡◌, ◌⊎◌, ℕ, ◌<◌, true, false, [], ◌++◌, None, All, Contains, map};
-ghost use Rattle.turn_lock.specs.Known.{Known, IsIdle};
-ghost use Rattle.turn_lock.specs.Passes.{IsSized};
+ghost use Rattle.turn_lock.specs.Known.{Known};
+ghost use Rattle.turn_lock.specs.Passes.{IsSized, IsResting};
 ghost use Rattle.turn_lock.specs.Ending.{joined_of, IsLast, HasAll, IsLeft};
 
 use crate::board::{Board, Place, Table};
@@ -34,7 +34,7 @@ pub(crate) fn join_all<T: Told>(
 )
     requires table { (seat.old.table_id ≡ board.now.table_id) × IsSized board.now.table_id }
     requires first { IsLast seat.old.me }
-    requires idle { All (IsIdle (record { table = board.now.table_id; seats = seats })) passes.items }
+    requires idle { All (IsResting (record { table = board.now.table_id; seats = seats })) passes.items }
     ensures table { seat.new.table_id ≡ seat.old.table_id }
     ensures seat { seat.new.me ≡ (record seat.old.me.0 { kept = map joined_of passes.items ++ seat.old.me.0.kept }, seat.old.me.1) }
 {

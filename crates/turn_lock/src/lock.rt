@@ -1,7 +1,7 @@
-ghost use Rattle.std.specs.Prelude.{◌≡◌, ℕ, ◌+◌, ◌<◌, ◌≤◌, true, false, [], ◌++◌, Some, IfOk, All, Contains, map};
+ghost use Rattle.std.specs.Prelude.{◌≡◌, ℕ, ◌+◌, ◌<◌, ◌≤◌, true, false, [], ◌++◌, IfOk, All, Contains, map};
 ghost use Rattle.std.specs.List.{range_with_len};
 ghost use Rattle.turn_lock.specs.Story.{StartsWith, borne, added, AllBear};
-ghost use Rattle.turn_lock.specs.Known.{Known, fresh, IsIdle};
+ghost use Rattle.turn_lock.specs.Known.{Known, fresh, IsOf, IsIdle};
 
 use crate::board::{MARKED, SERVING, Table};
 use crate::close::{join_all, take_first, take_out};
@@ -50,7 +50,7 @@ impl<T: Told> TurnLock<T> {
         requires story { T.story value ≡ [] }
         ensures lock { IfOk result (λ r. (r.0.id.seats ≡ seats) × (r.0.name ≡ T.name value)) }
         ensures passes { IfOk result
-            (λ r. r.1.items ≡ map (fresh r.0.id (T.name value) (T.mark value)) (range_with_len 0 seats)) }
+            (λ r. r.1.items ≡ map (fresh r.0 (T.mark value)) (range_with_len 0 seats)) }
     {
         let mut passes = Vec::with_capacity(alloc, seats as usize)?;
         let (table, mut seat) = Table::<T>::vacant(alloc, &[1, 0, 0], 1, &value)?;
@@ -79,11 +79,11 @@ impl<T: Told> TurnLock<T> {
     /// Takes the value, whose story begins with all that the pass has seen. It waits for the turn that is out, and for
     /// those that asked before. The turn after the last of 2^64 - 1 tickets never comes.
     pub fn take<R: Wait>(&self, rt: &R, pass: &mut Pass<T>) -> Turn<T>
-        requires lock { pass.old.lock ≡ self.now.id }
+        requires lock { IsOf self.now pass.old }
         requires idle { pass.old.out ≡ false }
         ensures pass { pass.new
             ≡ record pass.old { out = true; seen = T.story result; mark = T.mark result; turns = pass.old.turns + 1 } }
-        ensures name { Some (T.name result) ≡ pass.old.name }
+        ensures name { T.name result ≡ self.now.name }
         ensures story { StartsWith (T.story result) pass.old.seen }
         ensures own { borne T.bearer pass.old.number (T.story result) ≡ pass.old.own }
         ensures mark { pass.old.mark ≤ T.mark result }
@@ -101,9 +101,9 @@ impl<T: Told> TurnLock<T> {
     /// Gives the value back, and ends the turn. What was added to the story bears the number of the pass, which notes it
     /// as its own. It waits for nobody, and takes no memory.
     pub fn give(&self, turn: Turn<T>, pass: &mut Pass<T>)
-        requires lock { pass.old.lock ≡ self.now.id }
+        requires lock { IsOf self.now pass.old }
         requires out { pass.old.out ≡ true }
-        requires name { Some (T.name turn) ≡ pass.old.name }
+        requires name { T.name turn ≡ self.now.name }
         requires story { StartsWith (T.story turn) pass.old.seen }
         requires own { AllBear T.bearer pass.old.number (added pass.old.seen (T.story turn)) }
         requires mark { pass.old.mark ≤ T.mark turn }
@@ -123,18 +123,20 @@ impl<T: Told> TurnLock<T> {
     }
 
     /// The mark of the value that was given last, or that is just being given. It is one load, and waits for nobody.
+    /// While the pass has its turn out, it is the pass's own mark.
     pub fn mark(&self, pass: &mut Pass<T>) -> u64
-        requires lock { pass.old.lock ≡ self.now.id }
+        requires lock { IsOf self.now pass.old }
         ensures pass { pass.new ≡ record pass.old { mark = result; loads = pass.old.loads + 1; loaded = result } }
         ensures risen { pass.old.mark ≤ result }
-        ensures top { (name : T.Name) → pass.old.name ≡ Some name → result ≤ T.most name }
+        ensures top { result ≤ T.most self.now.name }
+        ensures holder { pass.old.out ≡ true → result ≡ pass.old.mark }
     {
         self.table.shared.load::<ReadsMark>(&mut pass.seat, MARKED)
     }
 
     /// Ends the lock and gives its value. It wants all its passes, none of which has a turn out.
     pub fn close(self, mut passes: Vec<Pass<T>>) -> T
-        requires idle { All (IsIdle self.id) passes.items }
+        requires idle { All (IsIdle self) passes.items }
         requires all { (n : ℕ) → n < self.id.seats
             → (p : Known T.Name T.Entry) × Contains passes.items p × (p.number ≡ n) }
         ensures name { T.name result ≡ self.name }

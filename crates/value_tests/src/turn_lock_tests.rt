@@ -82,8 +82,8 @@ fn write<R: Wait>(
     pass: &mut Pass<Notebook>,
     text: u32,
 ) -> Result<(), AllocError>
-    requires { IsIdle lock.now.id pass.old }
-    ensures idle { IsIdle lock.now.id pass.new }
+    requires { IsIdle lock.now pass.old }
+    ensures idle { IsIdle lock.now pass.new }
     ensures number { pass.new.number ≡ pass.old.number }
     ensures own { pass.new.own ≡ pass.old.own ++ (if is_ok result then record { by = pass.old.number; text = text } ∷ [] else []) }
 {
@@ -103,8 +103,8 @@ fn close_both(
     second: Pass<Notebook>,
     mut passes: Vec<Pass<Notebook>>,
 ) -> Result<Notebook, AllocError>
-    requires first { IsIdle lock.id first × (first.number ≡ 0) }
-    requires second { IsIdle lock.id second × (second.number ≡ 1) }
+    requires first { IsIdle lock first × (first.number ≡ 0) }
+    requires second { IsIdle lock second × (second.number ≡ 1) }
     requires all { (passes.items ≡ []) × (lock.id.seats ≡ 2) }
 {
     passes.push(first)?;
@@ -146,8 +146,8 @@ fn write_many<R: Wait>(
     lock: &TurnLock<Notebook>,
     mut pass: Pass<Notebook>,
 ) -> Pass<Notebook>
-    requires { IsIdle lock.now.id pass }
-    ensures { IsIdle lock.now.id result × (result.number ≡ pass.number) }
+    requires { IsIdle lock.now pass }
+    ensures { IsIdle lock.now result × (result.number ≡ pass.number) }
 {
     for text in 0..100 {
         if text % 10 == 0 {
@@ -161,8 +161,8 @@ fn write_many<R: Wait>(
 
 // A turn that adds nothing and is held for a while.
 fn hold<R: Wait>(rt: &R, lock: &TurnLock<Notebook>, pass: &mut Pass<Notebook>)
-    requires { IsIdle lock.now.id pass.old }
-    ensures { IsIdle lock.now.id pass.new × (pass.new.number ≡ pass.old.number) }
+    requires { IsIdle lock.now pass.old }
+    ensures { IsIdle lock.now pass.new × (pass.new.number ≡ pass.old.number) }
 {
     let turn = lock.take(rt, pass);
     for _ in 0..1000 {
@@ -190,20 +190,20 @@ fn write_both<R: Wait + Threads + Sync>(
     first: Pass<Notebook>,
     second: Pass<Notebook>,
 ) -> (Pass<Notebook>, Pass<Notebook>)
-    requires first { IsIdle lock.now.id first }
-    requires second { IsIdle lock.now.id second }
-    ensures first { IsIdle lock.now.id result.0 × (result.0.number ≡ first.number) }
-    ensures second { IsIdle lock.now.id result.1 × (result.1.number ≡ second.number) }
+    requires first { IsIdle lock.now first }
+    requires second { IsIdle lock.now second }
+    ensures first { IsIdle lock.now result.0 × (result.0.number ≡ first.number) }
+    ensures second { IsIdle lock.now result.1 × (result.1.number ≡ second.number) }
 {
     thread::join(
         rt,
         move || -> Pass<Notebook>
-            requires { IsIdle lock.now.id first }
-            ensures { IsIdle lock.entry.now.id result × (result.number ≡ first.number) }
+            requires { IsIdle lock.now first }
+            ensures { IsIdle lock.entry.now result × (result.number ≡ first.number) }
         { write_many(rt, lock, first) },
         move || -> Pass<Notebook>
-            requires { IsIdle lock.now.id second }
-            ensures { IsIdle lock.entry.now.id result × (result.number ≡ second.number) }
+            requires { IsIdle lock.now second }
+            ensures { IsIdle lock.entry.now result × (result.number ≡ second.number) }
         { write_many(rt, lock, second) },
     )
 }

@@ -1,5 +1,7 @@
-use Rattle.std.proofs.Common.{arith, ◌≡◌, ◌-◌, ◌<◌, ap, ◌∙◌, length, vec_len, vec_capacity, ◌∷◌, true, false}
+use Rattle.std.proofs.Common.{arith, ◌≡◌, ◌-◌, ◌<◌, sym, ap, ◌∙◌, length, map, vec_len, vec_capacity, ◌∷◌, true, false}
 use Rattle.std.proofs.lemmas.List.FromFn.{length-map-range_with_len}
+use Rattle.std.specs.List.{range_with_len}
+use Rattle.turn_lock.specs.Known.{fresh}
 use Rattle.turn_lock.specs.Passes.{known_of}
 use Rattle.turn_lock.proofs.Joins.{opens}
 use Rattle.turn_lock.proofs.Dealing.{all_fresh, at_front}
@@ -22,3 +24,4 @@ returns-clause-passes g c =
     at_front c.insert.result _ _ _ (c.insert.ensures.succeeds room) c.insert.ensures.items
     ∙ ((λ i. known_of c.deal.new.seat.table_id c.args.seats c.deal.new.seat.me.0 ∷ c.deal.ensures.passes i)
     ∙ all_fresh c.in_ok-table.table.shared.table_id _ _ c.args.seats _ _ c.begin.ensures.seat.0 c.begin.new.seat.me c.deal.new.seat.me (omega arith) (c.begin.ensures.table ∙ table.2) (c.deal.ensures.table ∙ (c.begin.ensures.table ∙ table.2)) c.begin.ensures.seat.2 c.deal.ensures.seat)
+    ∙ ap (λ k. map (fresh (record { id = record { table = c.in_ok-table.table.shared.table_id; seats = c.args.seats }; name = g.T.Told.name k }) (g.T.Told.mark c.args.value)) (range_with_len 0 c.args.seats)) (sym table.5)
