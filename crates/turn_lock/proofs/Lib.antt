@@ -4,3 +4,4 @@ pub mod Turns
 pub mod Joins
 pub mod Dealing
 pub mod Gathering
+pub mod Turning

@@ -3,5 +3,6 @@ pub mod Known
 pub mod Rule
 pub mod Steps
 pub mod Passes
+pub mod Lending
 pub mod Turned
 pub mod Ending

@@ -14,7 +14,7 @@ impl<T> Model for Turn<T> {
 impl<T> Turn<T> {
     ghost use Rattle.std.specs.Prelude.{◌≡◌};
     ghost use Rattle.std.specs.Borrow.{sem};
-    ghost use Rattle.turn_lock.specs.Turned.{LendsValue};
+    ghost use Rattle.turn_lock.specs.Lending.{LendsValue};
 
     /// The value, to read and to change.
     pub fn value(&mut self) -> &mut T
