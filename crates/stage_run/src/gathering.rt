@@ -31,9 +31,9 @@ pub(crate) fn pieces_of<L: Ledger>(
     Ok(pieces)
 }
 
-// Each prefix of the pieces over that level, with the region at its place, the shortest one first. Region
-// 0 has no prefix.
-pub(crate) fn stages_asked(
+/// Each prefix of the pieces over that level, with the region at its place, the shortest one first. Region
+/// 0 has no prefix.
+pub fn stages_asked(
     alloc: Global,
     level: u8,
     pieces: &[Piece],

@@ -6,5 +6,6 @@ mod gathering;
 mod reached;
 mod run;
 
+pub use gathering::stages_asked;
 pub use reached::At;
 pub use run::StageRun;
