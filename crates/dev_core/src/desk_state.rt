@@ -126,6 +126,13 @@ impl DeskState {
         self.desk.is_closed()
     }
 
+    /// Whether a worker has stopped the desk.
+    pub fn is_stopped(&self) -> bool
+        ensures { result ≡ (now self.now).stopped }
+    {
+        self.desk.is_stopped()
+    }
+
     /// What a worker takes next: the full pipe, the preview or the second pipe, where it is due, or else
     /// the least ticket that waits; `None` exactly where nothing is due.
     pub fn due(&self) -> Option<JobName>
