@@ -19,7 +19,7 @@ use Rattle.dev_core.specs.DeskState.{DeskSeen}
 use Rattle.dev_core.specs.Jobs.{JobSeen, OfPipe, done_entry, back_entry}
 use Rattle.desk.specs.declared.edited.Edited.{Edited}
 use Rattle.desk.specs.declared.edited.Edited.TheVariants as did
-use Rattle.desk.specs.Passes.{DeskLock, DeskKnown, holding, Holds, HoldsNone}
+use Rattle.desk.specs.Passes.{DeskLock, DeskKnown, holding, HasJob, HasNoJob}
 use Rattle.desk.specs.Turns.{desk_after, OneTurn, Began}
 use Rattle.desk.specs.Edits.{edit_adds}
 use Rattle.desk.specs.Given.{anew}
@@ -51,17 +51,17 @@ module _ (desk : DeskLock) (old mid : DeskKnown) (found : DeskSeen) (b : Began d
   none_line l e = cc
 
   -- a pass that holds no job has none there
-  pub idle_found : HoldsNone desk old → IsIdle (desk_after found.journal) old.number
+  pub idle_found : HasNoJob desk old → IsIdle (desk_after found.journal) old.number
   idle_found free = record {
     pipes_free = λ p m h. none_line _ (sym free ∙ (says_found (job.Pipe p) m).0 h);
     tickets_free = λ t h. none_line _ (sym free ∙ (says_found (job.Ticket t) (asked_moment found.subject.script t)).0 (h, refl));
   }
 
   -- a job that the pass holds is out there
-  pub job_found : (j : JobSeen) → Holds desk old j → HoldsJob found.subject.script (desk_after found.journal) j.worker j.name j.moment
+  pub job_found : (j : JobSeen) → HasJob desk old j → HoldsJob found.subject.script (desk_after found.journal) j.worker j.name j.moment
   job_found j h = subst (λ n. HoldsJob found.subject.script (desk_after found.journal) n j.name j.moment) (sym h.worker_is) ((says_found j.name j.moment).1 h.last)
 
-  pub subject_found : (j : JobSeen) → Holds desk old j → j.subject ≡ found.subject
+  pub subject_found : (j : JobSeen) → HasJob desk old j → j.subject ≡ found.subject
   subject_found j h = h.subject_is ∙ sym b.subject
 
 may_done : (script : Recipe) (d : Desk) (w : ℕ) (name : JobName) (m : ℕ) → HoldsJob script d w name m → May script d (done_entry name w m)
@@ -77,7 +77,7 @@ superseded : (script : Recipe) (d : Desk) (w mark : ℕ) (name : JobName) (m : �
 superseded script d w mark (job.Pipe p) m rose h later = (h, later_wider script p m m mark d.moment (omega arith) rose later)
 superseded script d w mark (job.Ticket t) m rose h later = later
 
-module _ (desk : DeskLock) (old mid : DeskKnown) (found : DeskSeen) (b : Began desk old mid found) (j : JobSeen) (h : Holds desk old j) where
+module _ (desk : DeskLock) (old mid : DeskKnown) (found : DeskSeen) (b : Began desk old mid found) (j : JobSeen) (h : HasJob desk old j) where
   -- it may be ended there, with its frame or without
   pub done_found : May found.subject.script (desk_after found.journal) (done_entry j.name j.worker j.moment)
   done_found = may_done found.subject.script (desk_after found.journal) j.worker j.name j.moment (job_found desk old mid found b j h)

@@ -13,7 +13,7 @@ use Rattle.journal.proofs.LaterLemmas.{later_rises}
 use Rattle.turn_lock.specs.Story.{AllBear}
 use Rattle.dev_core.specs.DeskState.{DeskSeen, now, with_entry}
 use Rattle.dev_core.specs.Jobs.{JobSeen, OfPipe}
-use Rattle.desk.specs.Passes.{DeskLock, DeskKnown, holding, line_of_job, Holds}
+use Rattle.desk.specs.Passes.{DeskLock, DeskKnown, holding, line_of_job, HasJob}
 use Rattle.desk.specs.Turns.{OneTurn, Entered, Began, Ended}
 use Rattle.desk.specs.Given.{anew, restart_adds}
 use Rattle.desk.proofs.TurnLemmas.{TookTurn, took_turn}
@@ -61,9 +61,9 @@ pub record RestartTurn (desk : DeskLock) (old new : DeskKnown) (j k : JobSeen) (
   pub moment : OnOk r (k.moment ≡ new.mark)
   pub rises : OnOk r (j.moment < k.moment)
   pub same : OnErr r (k ≡ j)
-  pub holds : Holds desk new k
+  pub holds : HasJob desk new k
 
-restarted : (desk : DeskLock) (old new : DeskKnown) (found after : DeskSeen) (j k : JobSeen) (r : Result (Unit {0}) AllocError) → old.mark ≤ (now found).moment → Holds desk old j
+restarted : (desk : DeskLock) (old new : DeskKnown) (found after : DeskSeen) (j k : JobSeen) (r : Result (Unit {0}) AllocError) → old.mark ≤ (now found).moment → HasJob desk old j
     → OfPipe j.name (λ p. Later desk.name.script p j.moment old.mark) → OnOk r (Restarts found after j) → OnOk r (k ≡ at_moment j (now found).moment) → OnErr r ((after ≡ found) × (k ≡ j))
     → new.mark ≡ (now after).moment → TookTurn desk old new (restart_adds k r) → RestartTurn desk old new j k r
 restarted desk old new found after j k (Ok u) rose h later restarts is err mark t =
@@ -94,7 +94,7 @@ restarted desk old new found after j k (Err e) rose h later restarts is err mark
   };
 }
 
-pub restart_turn : (desk : DeskLock) (old mid new : DeskKnown) (found after : DeskSeen) (j k : JobSeen) (r : Result (Unit {0}) AllocError) → Began desk old mid found → Holds desk old j
+pub restart_turn : (desk : DeskLock) (old mid new : DeskKnown) (found after : DeskSeen) (j k : JobSeen) (r : Result (Unit {0}) AllocError) → Began desk old mid found → HasJob desk old j
     → OfPipe j.name (λ p. Later desk.name.script p j.moment old.mark) → OnOk r (Restarts found after j) → OnOk r (k ≡ at_moment j (now found).moment) → OnErr r ((after ≡ found) × (k ≡ j))
     → Ended mid new after → RestartTurn desk old new j k r
 restart_turn desk old mid new found after j k r b h later ok is err ended =

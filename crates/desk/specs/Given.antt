@@ -40,15 +40,15 @@ taken None = []
 taken (Some j) = took_entry j.name j.worker j.moment ∷ []
 
 -- the moment of a job that is given at a moment: a ticket's is the one at which it was asked
-abbrev pub moment_for : Recipe → ℕ → JobName → ℕ
-moment_for script m (job.Pipe p) = m
-moment_for script m (job.Ticket t) = asked_moment script t
+abbrev pub given_moment : Recipe → ℕ → JobName → ℕ
+given_moment script m (job.Pipe p) = m
+given_moment script m (job.Ticket t) = asked_moment script t
 
 -- a job of this subject, given to this worker at this moment
-pub record IsGiven (s : SubjectSeen) (w m : ℕ) (j : JobSeen) : Type 0 where
+pub record IsGivenAt (s : SubjectSeen) (w m : ℕ) (j : JobSeen) : Type 0 where
   pub subject_is : j.subject ≡ s
   pub worker_is : j.worker ≡ w
-  pub moment_is : j.moment ≡ moment_for s.script m j.name
+  pub moment_is : j.moment ≡ given_moment s.script m j.name
 
 -- ---- the cause of each answer
 

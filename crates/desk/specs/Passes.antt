@@ -26,16 +26,16 @@ line_of_job j = record { job = j.name; moment = j.moment }
 
 -- The pass holds the job: it is of the desk's subject and of the pass's worker, and the last of the pass's own entries that is
 -- of a job took it, or began it anew, at its moment.
-pub record Holds (desk : DeskLock) (p : DeskKnown) (j : JobSeen) : Type 0 where
+pub record HasJob (desk : DeskLock) (p : DeskKnown) (j : JobSeen) : Type 0 where
   pub subject_is : j.subject ≡ desk.name
   pub worker_is : j.worker ≡ p.number
   pub last : holding desk.name.script p.own ≡ Some (line_of_job j)
 
 -- the pass holds no job
-abbrev pub HoldsNone : DeskLock → DeskKnown → Type 0
-HoldsNone desk p = holding desk.name.script p.own ≡ None
+abbrev pub HasNoJob : DeskLock → DeskKnown → Type 0
+HasNoJob desk p = holding desk.name.script p.own ≡ None
 
 -- just this is the job that the pass holds, where there is one
-abbrev pub HoldsJust : DeskLock → DeskKnown → Option JobSeen → Type 0
-HoldsJust desk p None = HoldsNone desk p
-HoldsJust desk p (Some j) = Holds desk p j
+abbrev pub HasJust : DeskLock → DeskKnown → Option JobSeen → Type 0
+HasJust desk p None = HasNoJob desk p
+HasJust desk p (Some j) = HasJob desk p j

@@ -5,7 +5,7 @@ ghost use Rattle.journal.specs.Desk.{IsIdle, due};
 ghost use Rattle.dev_core.specs.DeskState.{now};
 ghost use Rattle.desk.specs.Turns.{Entered};
 ghost use Rattle.desk.specs.Edits.{edited, edit_adds};
-ghost use Rattle.desk.specs.Given.{tried_job, found_job, name_in, taken, IsGiven, IsPolled};
+ghost use Rattle.desk.specs.Given.{tried_job, found_job, name_in, taken, IsGivenAt, IsPolled};
 ghost use Rattle.desk.specs.Stops.{is_stop, stop_adds};
 
 use crate::edited::Edited;
@@ -62,7 +62,7 @@ pub(crate) fn take_due(
     requires { IsIdle (now state.old) worker }
     ensures entered { Entered state.old state.new (taken (tried_job result)) }
     ensures answer { IfOk result (λ o. due state.old.subject.script (now state.old) ≡ name_in o) }
-    ensures given { IfSome (tried_job result) (IsGiven state.old.subject worker (now state.old).moment) }
+    ensures given { IfSome (tried_job result) (IsGivenAt state.old.subject worker (now state.old).moment) }
 {
     match state.due() {
         Some(JobName::Pipe(pipe)) => Ok(Some(state.take_pipe(alloc, pipe, worker)?)),
@@ -80,7 +80,7 @@ pub(crate) fn next_due(
     requires { IsIdle (now state.old) worker }
     ensures entered { Entered state.old state.new (taken (found_job result)) }
     ensures answer { IfOk result (λ o. IsPolled state.old.subject.script o (now state.old)) }
-    ensures given { IfSome (found_job result) (IsGiven state.old.subject worker (now state.old).moment) }
+    ensures given { IfSome (found_job result) (IsGivenAt state.old.subject worker (now state.old).moment) }
 {
     if has_stop(state.journal()) {
         return Ok(Some(NextJob::Stopped));

@@ -2,9 +2,9 @@ ghost use Rattle.std.specs.Prelude.{◌≡◌, ◌<◌, [], ◌∷◌, IfOk, IfS
 ghost use Rattle.turn_lock.specs.Known.{IsIdle};
 ghost use Rattle.journal.specs.Desk.{Later, due};
 ghost use Rattle.dev_core.specs.Jobs.{OfPipe, IsTicketJob, frame_of, done_entry, back_entry};
-ghost use Rattle.desk.specs.Passes.{Holds, HoldsNone, HoldsJust};
+ghost use Rattle.desk.specs.Passes.{HasJob, HasNoJob, HasJust};
 ghost use Rattle.desk.specs.Turns.{OneTurn, LastTurn, Found, KeepsLooks, desk_after};
-ghost use Rattle.desk.specs.Given.{tried_job, next_job, found_job, name_in, taken, IsGiven, IsNext, IsPolled, restart_adds};
+ghost use Rattle.desk.specs.Given.{tried_job, next_job, found_job, name_in, taken, IsGivenAt, IsNext, IsPolled, restart_adds};
 
 use crate::next_job::NextJob;
 use crate::shared::{DeskPass, SharedDesk};
@@ -24,11 +24,11 @@ impl SharedDesk {
         pass: &mut DeskPass,
     ) -> Result<Option<Job>, AllocError>
         requires lock { IsIdle self.now pass.old }
-        requires free { HoldsNone self.now pass.old }
+        requires free { HasNoJob self.now pass.old }
         ensures turn { OneTurn pass.old pass.new (taken (tried_job result)) }
         ensures answer { IfOk result (λ o. Found pass.new.seen (taken (tried_job result)) (λ d. due self.now.name.script d ≡ name_in o)) }
-        ensures given { IfSome (tried_job result) (IsGiven self.now.name pass.new.number pass.new.mark) }
-        ensures holds { HoldsJust self.now pass.new (tried_job result) }
+        ensures given { IfSome (tried_job result) (IsGivenAt self.now.name pass.new.number pass.new.mark) }
+        ensures holds { HasJust self.now pass.new (tried_job result) }
         ensures mark { pass.new.mark ≡ (desk_after pass.new.seen).moment }
         ensures looks { KeepsLooks pass.old pass.new }
         ensures lock { IsIdle self.now pass.new }
@@ -49,11 +49,11 @@ impl SharedDesk {
         pass: &mut DeskPass,
     ) -> Result<Option<NextJob>, AllocError>
         requires lock { IsIdle self.now pass.old }
-        requires free { HoldsNone self.now pass.old }
+        requires free { HasNoJob self.now pass.old }
         ensures turn { OneTurn pass.old pass.new (taken (found_job result)) }
         ensures answer { IfOk result (λ o. Found pass.new.seen (taken (found_job result)) (IsPolled self.now.name.script o)) }
-        ensures given { IfSome (found_job result) (IsGiven self.now.name pass.new.number pass.new.mark) }
-        ensures holds { HoldsJust self.now pass.new (found_job result) }
+        ensures given { IfSome (found_job result) (IsGivenAt self.now.name pass.new.number pass.new.mark) }
+        ensures holds { HasJust self.now pass.new (found_job result) }
         ensures mark { pass.new.mark ≡ (desk_after pass.new.seen).moment }
         ensures looks { KeepsLooks pass.old pass.new }
         ensures lock { IsIdle self.now pass.new }
@@ -75,11 +75,11 @@ impl SharedDesk {
         pass: &mut DeskPass,
     ) -> Result<NextJob, AllocError>
         requires lock { IsIdle self.now pass.old }
-        requires free { HoldsNone self.now pass.old }
+        requires free { HasNoJob self.now pass.old }
         ensures turns { LastTurn pass.old pass.new (taken (next_job result)) }
         ensures answer { IfOk result (λ n. Found pass.new.seen (taken (next_job result)) (IsNext self.now.name.script n)) }
-        ensures given { IfSome (next_job result) (IsGiven self.now.name pass.new.number pass.new.mark) }
-        ensures holds { HoldsJust self.now pass.new (next_job result) }
+        ensures given { IfSome (next_job result) (IsGivenAt self.now.name pass.new.number pass.new.mark) }
+        ensures holds { HasJust self.now pass.new (next_job result) }
         ensures mark { pass.new.mark ≡ (desk_after pass.new.seen).moment }
         ensures looks { KeepsLooks pass.old pass.new }
         ensures lock { IsIdle self.now pass.new }
@@ -109,14 +109,14 @@ impl SharedDesk {
         job: &mut Job,
     ) -> Result<(), AllocError>
         requires lock { IsIdle self.now pass.old }
-        requires holds { Holds self.now pass.old job.old }
+        requires holds { HasJob self.now pass.old job.old }
         requires later { OfPipe job.old.name (λ p. Later self.now.name.script p job.old.moment pass.old.mark) }
         ensures turn { OneTurn pass.old pass.new (restart_adds job.new result) }
         ensures job { job.new ≡ record job.old { moment = job.new.moment } }
         ensures moment { OnOk result (job.new.moment ≡ pass.new.mark) }
         ensures rises { OnOk result (job.old.moment < job.new.moment) }
         ensures same { OnErr result (job.new ≡ job.old) }
-        ensures holds { Holds self.now pass.new job.new }
+        ensures holds { HasJob self.now pass.new job.new }
         ensures mark { pass.new.mark ≡ (desk_after pass.new.seen).moment }
         ensures looks { KeepsLooks pass.old pass.new }
         ensures lock { IsIdle self.now pass.new }
@@ -132,10 +132,10 @@ impl SharedDesk {
     pub fn publish<R: Wait>(&self, rt: &R, pass: &mut DeskPass, job: Job, frame: Frame)
         requires lock { IsIdle self.now pass.old }
         requires pipe { OfPipe job.name (λ p. Unit {0}) }
-        requires holds { Holds self.now pass.old job }
+        requires holds { HasJob self.now pass.old job }
         requires frame { frame ≡ frame_of job }
         ensures turn { OneTurn pass.old pass.new (done_entry job.name job.worker job.moment ∷ []) }
-        ensures holds { HoldsNone self.now pass.new }
+        ensures holds { HasNoJob self.now pass.new }
         ensures mark { pass.new.mark ≡ (desk_after pass.new.seen).moment }
         ensures looks { KeepsLooks pass.old pass.new }
         ensures lock { IsIdle self.now pass.new }
@@ -151,10 +151,10 @@ impl SharedDesk {
     pub fn finish_ticket<R: Wait>(&self, rt: &R, pass: &mut DeskPass, job: Job, frame: Frame)
         requires lock { IsIdle self.now pass.old }
         requires ticket { IsTicketJob job.name }
-        requires holds { Holds self.now pass.old job }
+        requires holds { HasJob self.now pass.old job }
         requires frame { frame ≡ frame_of job }
         ensures turn { OneTurn pass.old pass.new (done_entry job.name job.worker job.moment ∷ []) }
-        ensures holds { HoldsNone self.now pass.new }
+        ensures holds { HasNoJob self.now pass.new }
         ensures mark { pass.new.mark ≡ (desk_after pass.new.seen).moment }
         ensures looks { KeepsLooks pass.old pass.new }
         ensures lock { IsIdle self.now pass.new }
@@ -169,9 +169,9 @@ impl SharedDesk {
     /// Takes a job back with no frame. It waits for its turn, and takes no memory.
     pub fn give_back<R: Wait>(&self, rt: &R, pass: &mut DeskPass, job: Job)
         requires lock { IsIdle self.now pass.old }
-        requires holds { Holds self.now pass.old job }
+        requires holds { HasJob self.now pass.old job }
         ensures turn { OneTurn pass.old pass.new (back_entry job.name job.worker ∷ []) }
-        ensures holds { HoldsNone self.now pass.new }
+        ensures holds { HasNoJob self.now pass.new }
         ensures mark { pass.new.mark ≡ (desk_after pass.new.seen).moment }
         ensures looks { KeepsLooks pass.old pass.new }
         ensures lock { IsIdle self.now pass.new }
