@@ -3,6 +3,8 @@
 #![tactic(auto)]
 
 #[cfg(test)]
+mod desk_tests;
+#[cfg(test)]
 mod dev_core_tests;
 #[cfg(test)]
 mod stage_cache_tests;

@@ -1,0 +1,40 @@
+use Rattle.std.proofs.Common.{ℕ, sym, subst}
+use Rattle.std.specs.Prelude.{IfSome}
+use Rattle.journal.specs.Desk.{IsIdle}
+use Rattle.dev_core.specs.DeskState.{now}
+use Rattle.desk.specs.Turns.{Began}
+use Rattle.desk.specs.Given.{tried_job, taken, IsGivenAt}
+use Rattle.desk.proofs.TurnLemmas.{may_end}
+use Rattle.desk.proofs.HoldLemmas.{idle_found}
+use Rattle.desk.proofs.GivenLemmas.{taken_bears, try_turn}
+use Rattle.desk.proofs.shared.SharedDesk.try_job.Goals as goal
+
+pub take_due-answer-requires : goal.take_due-answer-requires
+take_due-answer-requires g c =
+    let b = subst (Began c.args.self.now c.args.pass.now c.begin-turn.new.pass) (sym c.value.ensures.value) c.begin-turn.ensures in
+    subst (IsIdle (now c.value.result.now)) (sym c.number-worker.ensures.number) (idle_found c.args.self.now c.args.pass.now c.begin-turn.new.pass c.value.result.now b c.requires.free)
+
+pub end-requires : goal.end-requires
+end-requires g c =
+    let b = subst (Began c.args.self.now c.args.pass.now c.begin-turn.new.pass) (sym c.value.ensures.value) c.begin-turn.ensures in
+    let o = tried_job c.take_due-answer.result in
+    let given = subst (λ (n : ℕ). IfSome o (IsGivenAt c.value.result.now.subject n (now c.value.result.now).moment)) c.number-worker.ensures.number c.take_due-answer.ensures.given in
+    may_end c.args.self.now c.args.pass.now c.begin-turn.new.pass c.value.result.now c.take_due-answer.new.state (taken o) b c.take_due-answer.ensures.entered
+    (taken_bears c.value.result.now.subject c.args.pass.now.number (now c.value.result.now).moment o given)
+
+pub returns : goal.returns
+returns g c =
+    let b = subst (Began c.args.self.now c.args.pass.now c.begin-turn.new.pass) (sym c.value.ensures.value) c.begin-turn.ensures in
+    let o = tried_job c.take_due-answer.result in
+    let given = subst (λ (n : ℕ). IfSome o (IsGivenAt c.value.result.now.subject n (now c.value.result.now).moment)) c.number-worker.ensures.number c.take_due-answer.ensures.given in
+    let t = try_turn c.args.self.now c.args.pass.now c.begin-turn.new.pass c.end.new.pass c.value.result.now c.take_due-answer.new.state c.take_due-answer.result b c.requires.free c.take_due-answer.ensures.entered given c.end.ensures
+    c.take_due-answer.ensures.answer in record {
+      turn = t.took.turn;
+      answer = t.answer;
+      given = t.gave.given;
+      holds = t.gave.holds;
+      mark = t.took.mark;
+      looks = t.took.looks;
+      lock = t.took.idle;
+      number = t.took.number;
+    }

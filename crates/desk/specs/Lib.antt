@@ -1,0 +1,5 @@
+pub mod Passes
+pub mod Turns
+pub mod Edits
+pub mod Given
+pub mod Stops
