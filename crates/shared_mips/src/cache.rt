@@ -49,7 +49,6 @@ impl Model for MipCache {
 
 impl MipCache {
     ghost use Rattle.shared_mips.specs.declared.event.MipEvent.TheVariants.{Demote, Abandon, Leave};
-    ghost use Rattle.shared_mips.specs.Cells.{spot};
     ghost use Rattle.shared_mips.specs.Story.{worker_of, hold_of, entries_of, told_answer, found, Replays};
     ghost use Rattle.shared_mips.specs.Index.{reach_adds, evict_adds};
     ghost use Rattle.shared_mips.specs.Shared.{answer_of, answered, reached_hold, IsHoldOf};

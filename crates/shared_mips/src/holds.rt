@@ -1,4 +1,4 @@
-ghost use Rattle.std.specs.Prelude.{◌≡◌, ◌≤◌};
+ghost use Rattle.std.specs.Prelude.{◌≡◌};
 ghost use Rattle.mip_cache.specs.Slots.{IsLevel};
 ghost use Rattle.level_store.specs.Planes.{IsLevelPlane};
 

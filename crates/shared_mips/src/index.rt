@@ -1,5 +1,5 @@
 //! The list of levels that have a slot, with its story.
-ghost use Rattle.std.specs.Prelude.{◌≡◌, ◌<◌, ◌≤◌, ◌∷◌, [], ◌++◌, length, vec_len, vec_capacity, Some, None, IfOk, IfSome, Ok, OnOk, OnErr};
+ghost use Rattle.std.specs.Prelude.{◌≡◌, ◌<◌, ◌≤◌, ◌∷◌, [], ◌++◌, length, vec_capacity, Some, None, IfOk, IfSome, Ok};
 ghost use Rattle.std.specs.Arc.{arc_value};
 ghost use Rattle.level_store.specs.Levels.{reached_answer};
 ghost use Rattle.mip_cache.specs.Slots.{IsLevel};
@@ -45,7 +45,7 @@ pub struct MipName {
 
 /// The mark is the length of the story.
 impl Told for MipIndex {
-    ghost use Rattle.std.specs.Prelude.{length, ◌^◌, ◌-◌};
+    ghost use Rattle.std.specs.Prelude.{length};
     ghost use Rattle.shared_mips.specs.Story.{worker_of};
 
     type Name = MipName;

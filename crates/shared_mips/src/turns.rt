@@ -1,6 +1,6 @@
 //! One turn each. What a move on a cell must come before, its turn asks for; what must come after it, the
 //! turn gives.
-ghost use Rattle.std.specs.Prelude.{◌≡◌, ◌∷◌, [], Some, None, IfOk, IfSome};
+ghost use Rattle.std.specs.Prelude.{◌≡◌, ◌∷◌, [], Some, None, IfOk};
 ghost use Rattle.mip_cache.specs.Mipmaps.{evict_answer};
 ghost use Rattle.mip_cache.specs.Slots.{IsLevel};
 ghost use Rattle.level_store.specs.declared.hold.Hold.TheVariants.{Writes, Reads};
