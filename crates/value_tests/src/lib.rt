@@ -37,6 +37,8 @@ mod pnm_tests;
 #[cfg(test)]
 mod px_tests;
 #[cfg(test)]
+mod shared_mips_tests;
+#[cfg(test)]
 mod turn_lock_tests;
 #[cfg(test)]
 mod undo_stack_tests;

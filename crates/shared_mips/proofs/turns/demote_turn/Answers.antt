@@ -1,0 +1,21 @@
+use Rattle.std.proofs.Common.{[], ◌∷◌, ◌++◌, refl, ap, ◌∙◌}
+use Rattle.turn_lock.specs.Known.{Known}
+use Rattle.shared_mips.specs.declared.index.MipName.{MipName}
+use Rattle.shared_mips.specs.declared.event.MipEvent.{MipEvent}
+use Rattle.shared_mips.specs.declared.event.MipEvent.TheVariants.{Demote}
+use Rattle.shared_mips.proofs.StoryLemmas.{hold_more}
+use Rattle.shared_mips.proofs.TurnLemmas.{goes_on, adds}
+use Rattle.shared_mips.proofs.turns.demote_turn.Goals as goal
+
+pub give-requires-clause-story : goal.give-requires-clause-story
+give-requires-clause-story g c = goes_on c.args.pass.now _ c.take-turn.result c.value.result.now c.demote.new.self _ c.take-turn.ensures.pass c.value.ensures.value c.demote.ensures.story
+
+pub returns-clause-turned : goal.returns-clause-turned
+returns-clause-turned g c =
+    let kept = c.demote.ensures.story
+    ∙ ap (λ (e : MipEvent). record c.value.result.now { story = c.value.result.now.story ++ e ∷ [] }) (λ i. Demote (c.number-worker.ensures.number i) (c.level-level.ensures.level i)) in
+    let took = c.take-turn.ensures in
+    adds c.args.pass.now _ _ c.take-turn.result c.value.result.now c.demote.new.self (Demote c.args.pass.now.number c.args.reader.now.level ∷ []) c.requires.lock.waits took.pass took.story took.own took.mark c.give.ensures c.value.ensures.value kept (refl, tt)
+
+pub returns-clause-held : goal.returns-clause-held
+returns-clause-held g c = hold_more c.args.pass.now.own _ (Demote c.args.pass.now.number c.args.reader.now.level) (ap (λ (p : Known MipName MipEvent). p.own) (returns-clause-turned g c).pass)
