@@ -7,6 +7,8 @@ mod desk_tests;
 #[cfg(test)]
 mod dev_core_tests;
 #[cfg(test)]
+mod shared_stage_tests;
+#[cfg(test)]
 mod stage_cache_tests;
 #[cfg(test)]
 mod stepped_tests;

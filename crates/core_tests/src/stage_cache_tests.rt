@@ -36,7 +36,7 @@ fn active_of(instance: u8, exposure: Exposure) -> Active
 
 // A row of eleven black pixels.
 #[tactic(auto, using(crate::proofs::RowLemmas::zeros))]
-fn row(alloc: Global) -> Result<Plane, AllocError>
+pub(crate) fn row(alloc: Global) -> Result<Plane, AllocError>
     ensures { IfOk result (λ p. p ≡ record { kind = Rgb; w = 11; h = 1; area = whole_of 11 1; values = replicate 33 0 }) }
 {
     let values = vec![in alloc; 0; 33]?;
@@ -56,7 +56,7 @@ fn committed<L: Ledger>(alloc: Global, active: &Active, blank: Blank) -> Result<
 }
 
 // The first pixels of the row behind one exposure, of this instance.
-fn stage<R: Threads + Sync + Abort>(
+pub(crate) fn stage<R: Threads + Sync + Abort>(
     rt: &R,
     alloc: Global,
     instance: u8,

@@ -15,7 +15,7 @@ use Rattle.dev_core.specs.DeskState.{DeskSeen, now, with_entry}
 use Rattle.desk.specs.declared.edited.Edited.TheVariants as did
 use Rattle.desk.specs.Turns.{desk_after, Entered}
 use Rattle.desk.specs.Edits.{edited, edited_next}
-use Rattle.desk.specs.Stops.{is_stop, stop_adds}
+use Rattle.desk.specs.Stops.{stop_adds}
 
 pub entered_by : (old new : DeskSeen) (e : Entry) → new ≡ with_entry old e → Entered old new (e ∷ [])
 entered_by old new e is = record { subject = ap (λ s. s.subject) is; journal = ap (λ s. s.journal) is }
@@ -55,43 +55,6 @@ entered_ask old new t is t_is =
     subst (λ k. Entered old new (k ∷ [])) ((λ i. Asked (sym t_is i) (sym (moment_after old new e is) i))) (entered_by old new e is)
 
 -- ---- that the desk was stopped
-
-or_true : (b : Bool) → (b || true) ≡ true
-or_true true = refl
-or_true false = refl
-
-stop_next : (d : Desk) (e : Entry) → (next d e).stopped ≡ (is_stop e || d.stopped)
-stop_next d (Changed m) = refl
-stop_next d (Asked t m) = refl
-stop_next d Settled = refl
-stop_next d Closed = refl
-stop_next d (Took p w m) = refl
-stop_next d (Restarted p w m) = refl
-stop_next d (Published p w m) = refl
-stop_next d (GaveBack p w) = refl
-stop_next d (TicketTook t w) = refl
-stop_next d (TicketDone t w) = refl
-stop_next d (TicketBack t w) = refl
-stop_next d (Stopped w) = refl
-
-regroup : (a b c : Bool) → (b || (a || c)) ≡ ((a || b) || c)
-regroup true b c = or_true b
-regroup false b c = refl
-
-stopped_from : (d : Desk) (es : List Entry) → (desk_of d es).stopped ≡ (list_any is_stop es || d.stopped)
-stopped_from d [] = refl
-stopped_from d (e ∷ es) = stopped_from (next d e) es ∙ (ap (λ b. list_any is_stop es || b) (stop_next d e) ∙ regroup (is_stop e) (list_any is_stop es) d.stopped)
-
-or_false : (b : Bool) → (b || false) ≡ b
-or_false true = refl
-or_false false = refl
-
--- it was stopped exactly where a worker's stop is in its journal
-stopped_is : (es : List Entry) → list_any is_stop es ≡ (desk_after es).stopped
-stopped_is es = sym (stopped_from start es ∙ or_false (list_any is_stop es))
-
-pub stopped_at : (s : DeskSeen) (es : List Entry) (b : Bool) → es ≡ s.journal → list_any is_stop es ≡ b → (now s).stopped ≡ b
-stopped_at s es b is has = sym (stopped_is s.journal) ∙ (ap (list_any is_stop) (sym is) ∙ has)
 
 pub entered_stop : (old new : DeskSeen) (w : ℕ) (before : Bool) → (now old).stopped ≡ before → Entered old new (stop_adds w before) → Entered old new (stop_adds w (now old).stopped)
 entered_stop old new w before is e = subst (λ b. Entered old new (stop_adds w b)) (sym is) e

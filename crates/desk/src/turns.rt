@@ -1,18 +1,17 @@
 // What is done at the desk within one turn.
 ghost use Rattle.std.specs.Prelude.{◌≡◌, false, Some, IfOk, IfSome, slice_get};
-ghost use Rattle.std.specs.List.{list_any};
 ghost use Rattle.journal.specs.Desk.{IsIdle, due};
 ghost use Rattle.dev_core.specs.DeskState.{now};
 ghost use Rattle.desk.specs.Turns.{Entered};
 ghost use Rattle.desk.specs.Edits.{edited, edit_adds};
 ghost use Rattle.desk.specs.Given.{tried_job, found_job, name_in, taken, IsGivenAt, IsPolled};
-ghost use Rattle.desk.specs.Stops.{is_stop, stop_adds};
+ghost use Rattle.desk.specs.Stops.{stop_adds};
 
 use crate::edited::Edited;
 use crate::next_job::NextJob;
 use dev_core::{DeskState, Job};
 use edit_steps::Step;
-use journal::{Entry, is_ask};
+use journal::is_ask;
 use outside::JobName;
 use std::alloc::{AllocError, Global};
 
@@ -82,7 +81,7 @@ pub(crate) fn next_due(
     ensures answer { IfOk result (λ o. IsPolled state.old.subject.script o (now state.old)) }
     ensures given { IfSome (found_job result) (IsGivenAt state.old.subject worker (now state.old).moment) }
 {
-    if has_stop(state.journal()) {
+    if state.is_stopped() {
         return Ok(Some(NextJob::Stopped));
     }
     match take_due(state, alloc, worker)? {
@@ -96,21 +95,8 @@ pub(crate) fn next_due(
 pub(crate) fn stop_desk(state: &mut DeskState, worker: u32)
     ensures { Entered state.old state.new (stop_adds worker (now state.old).stopped) }
 {
-    if has_stop(state.journal()) {
+    if state.is_stopped() {
         return;
     }
     state.stop(worker);
-}
-
-fn is_stop(entry: &Entry) -> bool
-    ensures { result ≡ is_stop entry.now }
-{
-    matches!(entry, Entry::Stopped { .. })
-}
-
-// Whether a worker has stopped the desk.
-fn has_stop(journal: &[Entry]) -> bool
-    ensures { result ≡ list_any is_stop journal.now }
-{
-    journal.iter().any(|entry| is_stop(entry))
 }
