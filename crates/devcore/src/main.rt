@@ -7,10 +7,11 @@ ghost use Rattle.std.specs.Process.{exit_status};
 ghost use Rattle.develop_session.specs.Texts.{code_of};
 
 use develop_session::{Status, run_words};
-use outside::{HostSaid, HostShelf, Said};
+use outside::{HostSaid, HostShelf, OpenGate, Said};
 use std::io::ErrorKind;
 use std::process::ExitCode;
 use std::rt::{Env, Files};
+use std::sync::Wait;
 use std::thread::Threads;
 use std::{env, io};
 
@@ -35,14 +36,21 @@ fn unread(error: io::Error) -> io::Result<Status>
 }
 
 // Runs the command that the words are over real files.
-fn run<R: Env + Files + AllocGlobal + Threads + Sync, O: Said>(
+fn run<R: Env + Files + AllocGlobal + Wait + Threads + Sync, O: Said>(
     rt: &R,
     said: &mut O,
 ) -> io::Result<Status> {
     match words(rt) {
         Ok(words) => {
             let mut shelf = HostShelf::new(rt);
-            let status = run_words(rt, rt.alloc(), words.as_slice(), &mut shelf, said);
+            let status = run_words(
+                rt,
+                rt.alloc(),
+                words.as_slice(),
+                &mut shelf,
+                said,
+                &OpenGate,
+            );
             Ok(status)
         }
         Err(error) => {

@@ -20,12 +20,13 @@ use Rattle.stepped.specs.Step.{Core, Next, step}
 use Rattle.stepped.specs.Outcome.{OutcomeSeen, outcome_with, run, start_of, IsRefused}
 use Rattle.develop_session.specs.declared.status.Status.{Status}
 use Rattle.develop_session.specs.declared.status.Status.TheVariants as status
-use Rattle.develop_session.specs.Words.{Command, Replay}
+use Rattle.develop_session.specs.Words.{Command, Replay, Session}
 use Rattle.develop_session.specs.Files.{HasScript, HasBadScript, HasBadSource, HasEvents, HasBadEvents}
 use Rattle.develop_session.specs.Replay.{HasReplay, HasRefusedEvent, IsCutShort}
 use Rattle.develop_session.specs.Failures.{InputFails}
 use Rattle.develop_session.specs.Answers.{Answers}
 use Rattle.develop_session.specs.Replies.{Replies}
+use Rattle.develop_session.specs.Ends.{Ends}
 use Rattle.develop_session.specs.Complete.{HasPicture, AreValid, IsValidReplay, NoneRose, IsServed}
 
 -- ---- what stands is of one kind
@@ -96,7 +97,7 @@ all_happen c fs place r valid =
 cut_rose : (c : Replay) (rose : List ℕ → Type 0) (fs : Files) (new : Option Files) (name : List ℕ) → IsCutShort c rose (Some fs) new (put_end.Fault name) → ((at : List ℕ) → rose at → ⊥) → ⊥
 cut_rose c rose fs new name cut none = none name cut.puts.fails.1
 
--- ---- both commands
+-- ---- each command
 
 develop_complete : (c : Command) (old new : Option Files) (read_rose put_rose : List ℕ → Type 0) (said_rose : Type 0) (was is : Option (List ℕ)) (st : Status)
     → Answers c old new read_rose put_rose said_rose was is st → IsSomeAnd old (AreValid c.script c.source) → NoneRose read_rose put_rose said_rose → IsServed st
@@ -135,6 +136,22 @@ stepped_complete c (Some fs) new read_rose put_rose said_rose was is (status.She
 stepped_complete c (Some fs) new read_rose put_rose said_rose was is status.SaidFault replies valid none = none.said replies.2
 stepped_complete c (Some fs) new read_rose put_rose said_rose was is status.OutOfMemory replies valid none = tt
 
+session_complete : (c : Session) (old new : Option Files) (read_rose put_rose : List ℕ → Type 0) (said_rose : Type 0) (was is : Option (List ℕ)) (st : Status)
+    → Ends c old new read_rose put_rose said_rose was is st → IsSomeAnd old (AreValid c.script c.source) → NoneRose read_rose put_rose said_rose → IsServed st
+session_complete c None new read_rose put_rose said_rose was is st ends valid none = absurd valid
+session_complete c (Some fs) new read_rose put_rose said_rose was is status.Ok ends valid none = tt
+session_complete c (Some fs) new read_rose put_rose said_rose was is status.Usage ends valid none = absurd ends
+session_complete c (Some fs) new read_rose put_rose said_rose was is (status.ScriptRefused step reason) ends valid none =
+    input_good c.script c.source fs read_rose (status.ScriptRefused step reason) ends.0.1 valid none.reads
+session_complete c (Some fs) new read_rose put_rose said_rose was is (status.SourceRefused fault) ends valid none =
+    input_good c.script c.source fs read_rose (status.SourceRefused fault) ends.0.1 valid none.reads
+session_complete c (Some fs) new read_rose put_rose said_rose was is (status.EventsRefused place reason) ends valid none = absurd ends
+session_complete c (Some fs) new read_rose put_rose said_rose was is (status.ShelfFault name) (inl h, told) valid none =
+    input_good c.script c.source fs read_rose (status.ShelfFault name) h.1 valid none.reads
+session_complete c (Some fs) new read_rose put_rose said_rose was is (status.ShelfFault name) (inr h, told) valid none = none.puts name h.puts.fails.1
+session_complete c (Some fs) new read_rose put_rose said_rose was is status.SaidFault ends valid none = none.said ends.2
+session_complete c (Some fs) new read_rose put_rose said_rose was is status.OutOfMemory ends valid none = tt
+
 -- ---- the words
 
 pub develop_served : (o : Option Command) (c : Command) (old new : Option Files) (read_rose put_rose : List ℕ → Type 0) (said_rose : Type 0) (was is : Option (List ℕ)) (st : Status) → Some c ≡ o
@@ -148,3 +165,9 @@ pub stepped_served : (o : Option Replay) (c : Replay) (old new : Option Files) (
 stepped_served o c old new read_rose put_rose said_rose was is st same replies =
     subst (λ x. IfSome x (λ d. IsSomeAnd old (IsValidReplay d) → NoneRose read_rose put_rose said_rose → IsServed st)) same
     (stepped_complete c old new read_rose put_rose said_rose was is st replies)
+
+pub session_served : (o : Option Session) (c : Session) (old new : Option Files) (read_rose put_rose : List ℕ → Type 0) (said_rose : Type 0) (was is : Option (List ℕ)) (st : Status) → Some c ≡ o
+    → Ends c old new read_rose put_rose said_rose was is st → IfSome o (λ d. IsSomeAnd old (AreValid d.script d.source) → NoneRose read_rose put_rose said_rose → IsServed st)
+session_served o c old new read_rose put_rose said_rose was is st same ends =
+    subst (λ x. IfSome x (λ d. IsSomeAnd old (AreValid d.script d.source) → NoneRose read_rose put_rose said_rose → IsServed st)) same
+    (session_complete c old new read_rose put_rose said_rose was is st ends)

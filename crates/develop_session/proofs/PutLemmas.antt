@@ -1,4 +1,4 @@
--- what comes of a put of `develop` that failed
+-- what comes of puts that failed
 use Rattle.std.proofs.Common.{◌≡◌, ℕ, List, Option, None, Some, sym, subst, ◌∙◌, inl, inr, arith}
 use Rattle.std.specs.Prelude.{IfSome}
 use Rattle.outside.specs.Faults.{NoneFalls, Rose}
@@ -6,7 +6,9 @@ use Rattle.outside.specs.Shelf.{Files, PutsInPart}
 use Rattle.outside.proofs.FaultLaws.{Rose-wider}
 use Rattle.px.specs.Picture.{Picture}
 use Rattle.edit_steps.specs.Script.{Recipe}
-use Rattle.publish.specs.Files.{RoseAt}
+use Rattle.publish.specs.declared.put_end.PutEnd.{PutEnd}
+use Rattle.publish.specs.Files.{Put, RoseAt, AreCutShort}
+use Rattle.publish.proofs.PutLemmas.{put_fails_since}
 use Rattle.develop_session.specs.declared.status.Status.{Status}
 use Rattle.develop_session.specs.declared.status.Status.TheVariants as status
 use Rattle.develop_session.specs.Files.{HasScript, HasSource}
@@ -14,6 +16,20 @@ use Rattle.develop_session.specs.Failures.{PutFailsAt}
 use Rattle.develop_session.specs.Answers.{PutFails, Refuses}
 use Rattle.develop_session.specs.Develop.{out_bytes}
 use Rattle.develop_session.specs.Words.{Command}
+
+-- a rise of a count since a later time is one since an earlier time
+pub cut_since : (ps : List Put) (early late now : List ℕ → ℕ) (old new : Option Files) (why : PutEnd) → NoneFalls early late → AreCutShort ps (RoseAt late now) old new why
+    → AreCutShort ps (RoseAt early now) old new why
+cut_since ps early late now old new why falls cut = record {
+  done = cut.done;
+  next = cut.next;
+  stands = cut.stands;
+  between = cut.between;
+  front = cut.front;
+  fails = put_fails_since cut.next early late now cut.between new why falls cut.fails;
+}
+
+-- ---- develop
 
 put_part : (c : Command) (r : Recipe) (q : Picture) (old new : Option Files) → IfSome old (λ fs. HasScript c.script fs r) → IfSome old (λ fs. HasSource c.source r.settings.cfa fs q)
     → PutsInPart c.out (out_bytes r q) old new → PutFails c old new

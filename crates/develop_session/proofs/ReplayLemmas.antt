@@ -17,15 +17,16 @@ use Rattle.stepped.specs.Step.{Next, step}
 use Rattle.stepped.proofs.SubjectLemmas.{step-subject}
 use Rattle.publish.specs.declared.put_end.PutEnd.{PutEnd}
 use Rattle.publish.specs.declared.put_end.PutEnd.TheVariants.{Fault, Memory}
-use Rattle.publish.specs.Files.{Put, RoseAt, ArePut, AreCutShort, files, desk_files}
-use Rattle.publish.proofs.PutLemmas.{put_fails_since}
+use Rattle.publish.specs.Files.{RoseAt, ArePut, AreCutShort, files, desk_files}
+use Rattle.develop_session.proofs.PutLemmas.{cut_since}
 use Rattle.develop_session.specs.declared.tally.Tally.{Tally}
 use Rattle.develop_session.specs.Words.{Replay}
 use Rattle.develop_session.specs.declared.status.Status.{Status}
 use Rattle.develop_session.specs.declared.status.Status.TheVariants as status
 use Rattle.develop_session.specs.Files.{HasEvents, HasBadEvents}
 use Rattle.develop_session.specs.Failures.{put_status, EventsFail, Tells}
-use Rattle.develop_session.specs.Replay.{HasSubject, HasSomeSubject, HasReplay, Leave, IsTally, IsReplayed, IsCutShort, files_of}
+use Rattle.develop_session.specs.Subject.{HasSubject, HasSomeSubject}
+use Rattle.develop_session.specs.Replay.{HasReplay, Leave, IsTally, IsReplayed, IsCutShort, files_of}
 use Rattle.develop_session.specs.Replies.{Declines, Replies}
 use Rattle.develop_session.specs.Texts.{refusal_text}
 
@@ -61,13 +62,13 @@ left_tally s es o t left events lines_are complete =
       all_done = complete ∙ ap (λ x. is_complete x (desk_of start o.core.journal)) script;
     }
 
-both_stand : (c : Replay) (s : SubjectSeen) (es : List Event) (old later : Option Files) → later ≡ old → IfSome old (λ fs. HasSubject c fs s) → IfSome later (λ fs. HasEvents c.events fs es)
+both_stand : (c : Replay) (s : SubjectSeen) (es : List Event) (old later : Option Files) → later ≡ old → IfSome old (λ fs. HasSubject c.script c.source fs s) → IfSome later (λ fs. HasEvents c.events fs es)
     → IfSome old (HasReplay c s es)
 both_stand c s es old later same subject events = if_both old later same subject events (λ fs p q. record { subject_stands = p; events_stand = q })
 
 -- what was read and put, and the tally
 pub is_replayed : (c : Replay) (s : SubjectSeen) (es : List Event) (o : OutcomeSeen) (d : DeskSeen) (old later latest new : Option Files) (t : Tally) → later ≡ old → latest ≡ later
-    → IfSome old (λ fs. HasSubject c fs s) → IfSome later (λ fs. HasEvents c.events fs es) → Leave s es o
+    → IfSome old (λ fs. HasSubject c.script c.source fs s) → IfSome later (λ fs. HasEvents c.events fs es) → Leave s es o
     → d.subject ≡ o.core.subject → d.journal ≡ o.core.journal → ArePut (desk_files d) latest new
     → t.events ≡ length es → t.lines ≡ length (lines o.core.subject.script o.core.journal) → t.complete ≡ is_complete o.core.subject.script (desk_of start o.core.journal)
     → IsReplayed c old new t
@@ -81,17 +82,6 @@ is_replayed c s es o d old later latest new t same again subject events left d_s
   put = subst (λ ps. ArePut ps old new) (left_files s es o d left d_subject d_journal) (subst (λ x. ArePut (desk_files d) x new) (again ∙ same) put);
 }
 
-cut_since : (ps : List Put) (early late now : List ℕ → ℕ) (old new : Option Files) (why : PutEnd) → NoneFalls early late → AreCutShort ps (RoseAt late now) old new why
-    → AreCutShort ps (RoseAt early now) old new why
-cut_since ps early late now old new why falls cut = record {
-  done = cut.done;
-  next = cut.next;
-  stands = cut.stands;
-  between = cut.between;
-  front = cut.front;
-  fails = put_fails_since cut.next early late now cut.between new why falls cut.fails;
-}
-
 refused_put : (c : Replay) (old new : Option Files) (read_rose put_rose : List ℕ → Type 0) (why : PutEnd) → IsCutShort c put_rose old new why → Declines c old new read_rose put_rose (put_status why)
 refused_put c old new read_rose put_rose (Fault name) cut = inr (inr cut)
 refused_put c old new read_rose put_rose Memory cut = inr cut
@@ -99,7 +89,7 @@ refused_put c old new read_rose put_rose Memory cut = inr cut
 -- the puts were cut short
 pub put_declines : (c : Replay) (s : SubjectSeen) (es : List Event) (o : OutcomeSeen) (d : DeskSeen) (old later latest new : Option Files) (read_rose : List ℕ → Type 0) (early late now : List ℕ → ℕ)
     (why : PutEnd) → later ≡ old → latest ≡ later → NoneFalls early late
-    → IfSome old (λ fs. HasSubject c fs s) → IfSome later (λ fs. HasEvents c.events fs es) → Leave s es o
+    → IfSome old (λ fs. HasSubject c.script c.source fs s) → IfSome later (λ fs. HasEvents c.events fs es) → Leave s es o
     → d.subject ≡ o.core.subject → d.journal ≡ o.core.journal → AreCutShort (desk_files d) (RoseAt late now) latest new why
     → Declines c old new read_rose (RoseAt early now) (put_status why)
 put_declines c s es o d old later latest new read_rose early late now why same again falls subject events left d_subject d_journal cut =
@@ -113,17 +103,17 @@ put_declines c s es o d old later latest new read_rose early late now why same a
           (subst (λ x. AreCutShort (desk_files d) (RoseAt early now) x new why) (again ∙ same) (cut_since (desk_files d) early late now latest new why falls cut));
     })
 
-some_subject : (c : Replay) (s : SubjectSeen) (old : Option Files) → IfSome old (λ fs. HasSubject c fs s) → IfSome old (HasSomeSubject c)
+some_subject : (c : Replay) (s : SubjectSeen) (old : Option Files) → IfSome old (λ fs. HasSubject c.script c.source fs s) → IfSome old (HasSomeSubject c.script c.source)
 some_subject c s None h = tt
 some_subject c s (Some fs) h = (s, h)
 
-both_told : (c : Replay) (s : SubjectSeen) (old later : Option Files) (fault : EventsFault) → later ≡ old → IfSome old (λ fs. HasSubject c fs s) → IfSome later (HasBadEvents c.events fault)
-    → IfSome old (λ fs. HasSomeSubject c fs × HasBadEvents c.events fault fs)
+both_told : (c : Replay) (s : SubjectSeen) (old later : Option Files) (fault : EventsFault) → later ≡ old → IfSome old (λ fs. HasSubject c.script c.source fs s) → IfSome later (HasBadEvents c.events fault)
+    → IfSome old (λ fs. HasSomeSubject c.script c.source fs × HasBadEvents c.events fault fs)
 both_told c s old later fault same subject fails = if_both old later same (some_subject c s old subject) fails (λ fs p q. (p, q))
 
 -- the events weren't read
 pub events_decline : (c : Replay) (s : SubjectSeen) (old later new : Option Files) (early late now : List ℕ → ℕ) (put_rose : List ℕ → Type 0) (why : Status) → later ≡ old → new ≡ later → NoneFalls early late
-    → IfSome old (λ fs. HasSubject c fs s) → EventsFail c.events later (Rose (late c.events) (now c.events)) why → Declines c old new (RoseAt early now) put_rose why
+    → IfSome old (λ fs. HasSubject c.script c.source fs s) → EventsFail c.events later (Rose (late c.events) (now c.events)) why → Declines c old new (RoseAt early now) put_rose why
 events_decline c s old later new early late now put_rose status.OutOfMemory same again falls subject fails = inl (again ∙ same)
 events_decline c s old later new early late now put_rose (status.EventsRefused place NotAllowed) same again falls subject fails = absurd fails
 events_decline c s old later new early late now put_rose (status.EventsRefused place TooLong) same again falls subject fails =

@@ -2,10 +2,13 @@ pub mod Words
 pub mod Texts
 pub mod Files
 pub mod Develop
+pub mod Subject
 pub mod Replay
+pub mod Session
 pub mod Failures
 pub mod Answers
 pub mod Replies
+pub mod Ends
 pub mod Names
 pub mod Complete
 pub mod Generation

@@ -1,6 +1,5 @@
 -- what `stepped` makes of its files
 use Rattle.std.specs.Prelude.{◌≡◌, ℕ, List, length, Option, Some, IfSome}
-use Rattle.px.specs.Cut.{picture_of}
 use Rattle.outside.specs.Shelf.{Files}
 use Rattle.journal.specs.Desk.{start, desk_of, is_complete}
 use Rattle.journal.specs.Lines.{Line, lines}
@@ -9,21 +8,14 @@ use Rattle.events.specs.declared.event.Event.{Event}
 use Rattle.stepped.specs.Outcome.{OutcomeSeen, start_of, run, IsRefused}
 use Rattle.publish.specs.declared.put_end.PutEnd.{PutEnd}
 use Rattle.publish.specs.Files.{Put, files, ArePut, AreCutShort}
-use Rattle.develop_session.specs.Files.{HasScript, HasSource, HasEvents}
+use Rattle.develop_session.specs.Files.{HasEvents}
+use Rattle.develop_session.specs.Subject.{HasSubject}
 use Rattle.develop_session.specs.declared.tally.Tally.{Tally}
 use Rattle.develop_session.specs.Words.{Replay}
 
--- script and source stand there, and this is their subject
-pub record HasSubject (c : Replay) (fs : Files) (s : SubjectSeen) : Type 0 where
-  pub script : HasScript c.script fs s.script
-  pub source : HasSource c.source s.script.settings.cfa fs (picture_of s.source)
-
-abbrev pub HasSomeSubject : Replay → Files → Type 0
-HasSomeSubject c fs = (s : SubjectSeen) × HasSubject c fs s
-
 -- subject and events stand there
 pub record HasReplay (c : Replay) (s : SubjectSeen) (events : List Event) (fs : Files) : Type 0 where
-  pub subject_stands : HasSubject c fs s
+  pub subject_stands : HasSubject c.script c.source fs s
   pub events_stand : HasEvents c.events fs events
 
 -- all events may happen, each after those before it, and this is what they leave

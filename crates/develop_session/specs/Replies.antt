@@ -10,7 +10,8 @@ use Rattle.develop_session.specs.Words.{Replay}
 use Rattle.develop_session.specs.declared.tally.Tally.{Tally}
 use Rattle.develop_session.specs.Texts.{replayed_text, refusal_text}
 use Rattle.develop_session.specs.Files.{HasBadEvents}
-use Rattle.develop_session.specs.Replay.{HasSomeSubject, HasRefusedEvent, IsReplayed, IsCutShort}
+use Rattle.develop_session.specs.Subject.{HasSomeSubject}
+use Rattle.develop_session.specs.Replay.{HasRefusedEvent, IsReplayed, IsCutShort}
 use Rattle.develop_session.specs.Failures.{InputFails, Tells}
 
 -- The run was refused. The two predicates say of a name that its count of faults rose in this call.
@@ -20,10 +21,10 @@ Declines c old new read_rose put_rose (status.ScriptRefused step reason) = (new 
 Declines c old new read_rose put_rose (status.SourceRefused fault) = (new ≡ old) × InputFails c.script c.source old read_rose (status.SourceRefused fault)
 Declines c old new read_rose put_rose (status.EventsRefused place NotAllowed) = (new ≡ old) × HasRefusedEvent c place old
 Declines c old new read_rose put_rose (status.EventsRefused place reason) =
-    (new ≡ old) × IfSome old (λ fs. HasSomeSubject c fs × HasBadEvents c.events (record { place = place; reason = reason }) fs)
+    (new ≡ old) × IfSome old (λ fs. HasSomeSubject c.script c.source fs × HasBadEvents c.events (record { place = place; reason = reason }) fs)
 Declines c old new read_rose put_rose (status.ShelfFault name) =
     ((new ≡ old) × InputFails c.script c.source old read_rose (status.ShelfFault name))
-    ⊎ (((new ≡ old) × (name ≡ c.events) × read_rose name × IfSome old (HasSomeSubject c))
+    ⊎ (((new ≡ old) × (name ≡ c.events) × read_rose name × IfSome old (HasSomeSubject c.script c.source))
     ⊎ IsCutShort c put_rose old new (put_end.Fault name))
 Declines c old new read_rose put_rose _ = ⊥
 

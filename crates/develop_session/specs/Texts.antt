@@ -30,6 +30,10 @@ completeness false = codes "open"
 abbrev pub replayed_text : Tally → List ℕ
 replayed_text t = codes "events " ++ (decimal t.events ++ (codes " lines " ++ (decimal t.lines ++ (codes " " ++ (completeness t.complete ++ codes "\n")))))
 
+-- the number of lines
+abbrev pub session_text : ℕ → List ℕ
+session_text count = codes "lines " ++ (decimal count ++ codes "\n")
+
 -- what is said of a refusal
 abbrev pub refusal_text : Status → List ℕ
 refusal_text status.Usage = codes "usage: devcore develop SCRIPT SOURCE OUT, stepped SCRIPT SOURCE EVENTS, session SCRIPT SOURCE, generate N\n"

@@ -14,6 +14,11 @@ pub record Replay : Type 0 where
   pub source : List ℕ
   pub events : List ℕ
 
+-- `session` with its two names
+pub record Session : Type 0 where
+  pub script : List ℕ
+  pub source : List ℕ
+
 -- the words as texts
 abbrev pub texts : List (String Global) → List (List ℕ)
 texts words = map string_bytes words
@@ -27,6 +32,11 @@ command_of _ = None
 abbrev pub replay_of : List (List ℕ) → Option Replay
 replay_of (word ∷ script ∷ source ∷ events ∷ []) = if bytes_eq word (codes "stepped") then Some (record { script = script; source = source; events = events }) else None
 replay_of _ = None
+
+-- the session that the words are
+abbrev pub session_of : List (List ℕ) → Option Session
+session_of (word ∷ script ∷ source ∷ []) = if bytes_eq word (codes "session") then Some (record { script = script; source = source }) else None
+session_of _ = None
 
 -- ---- generate
 

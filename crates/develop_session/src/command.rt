@@ -1,6 +1,6 @@
 ghost use Rattle.std.specs.Prelude.{◌≡◌, option_map};
-ghost use Rattle.develop_session.specs.Words.{command_of, replay_of, number_in, number_of, texts};
-ghost use Rattle.develop_session.specs.Names.{command, replay};
+ghost use Rattle.develop_session.specs.Words.{command_of, replay_of, session_of, number_in, number_of, texts};
+ghost use Rattle.develop_session.specs.Names.{command, replay, session};
 
 // The names of a `develop` command.
 #[derive(Clone, Copy)]
@@ -49,6 +49,29 @@ pub(crate) fn replay_names_of(words: &[String]) -> Option<ReplayNames<'_>>
         script: script.as_str(),
         source: source.as_str(),
         events: events.as_str(),
+    })
+}
+
+// The names of a `session` command.
+#[derive(Clone, Copy)]
+pub(crate) struct SessionNames<'a> {
+    pub(crate) script: &'a str,
+    pub(crate) source: &'a str,
+}
+
+// The session that the words are, if they are one.
+pub(crate) fn session_names_of(words: &[String]) -> Option<SessionNames<'_>>
+    ensures { option_map session result ≡ session_of (texts words.now) }
+{
+    let [word, script, source] = words else {
+        return None;
+    };
+    if word.as_str() != "session" {
+        return None;
+    }
+    Some(SessionNames {
+        script: script.as_str(),
+        source: source.as_str(),
     })
 }
 

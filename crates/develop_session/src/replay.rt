@@ -1,58 +1,31 @@
 //! `stepped`: the files of the journal that a list of events makes.
-ghost use Rattle.std.specs.Prelude.{◌≡◌, ◌≤◌, length, IfOk, IfErr, IfSome};
+ghost use Rattle.std.specs.Prelude.{◌≡◌, ◌≤◌, length, IfOk, IfErr};
 ghost use Rattle.std.specs.Arc.{arc_value};
-ghost use Rattle.px.specs.Cut.{IsWhole};
-ghost use Rattle.outside.specs.Faults.{Rose, NoneFalls};
+ghost use Rattle.outside.specs.Faults.{Rose};
 ghost use Rattle.journal.specs.Desk.{start, desk_of, is_complete};
 ghost use Rattle.journal.specs.Lines.{lines};
 ghost use Rattle.publish.specs.Files.{RoseAt};
-ghost use Rattle.develop_session.specs.Failures.{InputFails, RunFails, SaysLine};
+ghost use Rattle.develop_session.specs.Failures.{RunFails, SaysLine};
 ghost use Rattle.develop_session.specs.Names.{replay};
-ghost use Rattle.develop_session.specs.Replay.{HasSubject, IsReplayed, Leave};
+ghost use Rattle.develop_session.specs.Replay.{IsReplayed, Leave};
 ghost use Rattle.develop_session.specs.Replies.{Declines, Replies};
 ghost use Rattle.develop_session.specs.Texts.{replayed_text};
 ghost use Rattle.develop_session.specs.Words.{Replay};
 
 use crate::command::ReplayNames;
 use crate::devices::{say_line, tell};
-use crate::inputs::{read_events, read_inputs};
+use crate::inputs::read_events;
 use crate::status::Status;
+use crate::subject::read_subject;
 use crate::tally::{Tally, replayed_line};
 use dev_core::Subject;
-use edit_steps::Script;
 use events::{Event, EventReason};
-use modules_raw::Source;
 use outside::{Said, Shelf};
 use publish::write_all;
-use px::Plane;
-use std::alloc::{AllocError, Global};
+use std::alloc::Global;
 use std::sync::Arc;
 use std::thread::Threads;
 use stepped::{Outcome, StepEnd, stepped};
-
-fn subject_of(alloc: Global, script: Script, plane: Plane) -> Result<Arc<Subject>, AllocError>
-    requires whole { IsWhole plane }
-    ensures { IfOk result (λ s. arc_value s ≡ record { source = plane; script = script }) }
-{
-    let source = Arc::new(alloc, Source::of(plane)).map_err(AllocError::from)?;
-    Ok(Arc::new(alloc, Subject::of(source, script)).map_err(AllocError::from)?)
-}
-
-// The subject of the script and the source.
-fn read_subject<S: Shelf>(
-    alloc: Global,
-    shelf: &mut S,
-    names: ReplayNames<'_>,
-) -> Result<Arc<Subject>, Status>
-    ensures subject { IfOk result (λ s. IfSome (S.files shelf.old) (λ fs. HasSubject (replay names.entry) fs (arc_value s))) }
-    ensures cause { IfErr result (InputFails (replay names.entry).script (replay names.entry).source (S.files shelf.old) (RoseAt (S.read_faults shelf.old) (S.read_faults shelf.new))) }
-    ensures unchanged { S.files shelf.new ≡ S.files shelf.old }
-    ensures reads { NoneFalls (S.read_faults shelf.old) (S.read_faults shelf.new) }
-    ensures puts { NoneFalls (S.put_faults shelf.old) (S.put_faults shelf.new) }
-{
-    let (script, plane) = read_inputs(alloc, shelf, names.script, names.source)?;
-    Ok(subject_of(alloc, script, plane)?)
-}
 
 // What all events leave, where each may happen.
 fn run_all<R: Threads + Sync>(
@@ -99,7 +72,7 @@ fn run_files<R: Threads + Sync, S: Shelf>(
     ensures ok { IfOk result (λ t. IsReplayed (replay names.entry) (S.files shelf.old) (S.files shelf.new) t) }
     ensures cause { IfErr result (Declines (replay names.entry) (S.files shelf.old) (S.files shelf.new) (RoseAt (S.read_faults shelf.old) (S.read_faults shelf.new)) (RoseAt (S.put_faults shelf.old) (S.put_faults shelf.new))) }
 {
-    let subject = read_subject(alloc, shelf, names)?;
+    let subject = read_subject(alloc, shelf, names.script, names.source)?;
     let events = read_events(alloc, shelf, names.events)?;
     let outcome = run_all(rt, alloc, &subject, events.as_slice())?;
     write_all(alloc, outcome.desk(), shelf)?;

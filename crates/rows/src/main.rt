@@ -24,11 +24,12 @@ use fault::RowsEnd;
 use played::{play, shown};
 use row::Row;
 use std::fs;
+use std::sync::Wait;
 use std::thread::Threads;
 use values::Values;
 
 // What one line of the table prints, if it is a row. A value is kept for the lines that follow.
-fn answer<R: Threads + Sync + AllocGlobal>(
+fn answer<R: Wait + Threads + Sync + AllocGlobal>(
     rt: &R,
     values: &mut Values,
     line: &str,

@@ -5,9 +5,10 @@ use crate::pieces::joined;
 use crate::row::Row;
 use crate::values::Values;
 use develop_session::run_words;
-use outside::{MemorySaid, MemoryShelf};
+use outside::{MemorySaid, MemoryShelf, OpenGate};
 use std::alloc::{AllocError, Global};
 use std::fmt::Write;
+use std::sync::Wait;
 use std::thread::Threads;
 
 /// What a command left: its status, what was said, and the files.
@@ -42,7 +43,7 @@ fn place_all(
 }
 
 /// Runs the command of a row over its files.
-pub(crate) fn play<R: Threads + Sync>(
+pub(crate) fn play<R: Wait + Threads + Sync>(
     rt: &R,
     alloc: Global,
     values: &Values,
@@ -61,7 +62,14 @@ pub(crate) fn play<R: Threads + Sync>(
     place_all(alloc, values, row.files, &mut shelf)?;
     let words = words_of(alloc, row.words)?;
     let mut said = MemorySaid::new(alloc, says);
-    let status = run_words(rt, alloc, words.as_slice(), &mut shelf, &mut said);
+    let status = run_words(
+        rt,
+        alloc,
+        words.as_slice(),
+        &mut shelf,
+        &mut said,
+        &OpenGate,
+    );
     let code = status.code();
     Ok(Played { code, said, shelf })
 }
