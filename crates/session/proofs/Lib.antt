@@ -1,0 +1,4 @@
+pub mod Completing
+pub mod Concluding
+pub mod Listing
+pub mod Starting
