@@ -1,15 +1,14 @@
 -- Where each thread did all, the journal is complete: some pass saw the whole of it in its last turn, and nobody has a job.
-use Rattle.std.proofs.Common.{◌≡◌, ℕ, zero, suc, ◌+◌, ◌<◌, ◌≤◌, ◌⊎◌, Bool, true, false, cond, not, ◌&&◌, ◌||◌, eqb, List, [], ◌∷◌, ◌++◌, length, refl, sym, ap, subst, ◌∙◌, append_assoc, eq-eqb, arith, Option, Some, None, inl, inr}
+use Rattle.std.proofs.Common.{◌≡◌, ℕ, zero, suc, ◌+◌, ◌<◌, ◌≤◌, ◌⊎◌, Bool, true, false, cond, not, ◌&&◌, ◌||◌, eqb, List, [], ◌∷◌, ◌++◌, length, refl, sym, ap, subst, ◌∙◌, eq-eqb, arith, Option, Some, None, inl, inr}
 use Rattle.std.specs.Prelude.{is_none, option_map, slice_get, ◌==◌}
 use Rattle.std.specs.List.{Contains, list_all}
-use Rattle.std.specs.Option.{option_map_or, option_or}
+use Rattle.std.specs.Option.{option_or}
 use Rattle.std.proofs.lemmas.Bool.{cases_lt}
 use Rattle.std.proofs.lemmas.List.{append-nil}
 use Rattle.std.proofs.lemmas.List.Elements.{filter-append}
 use Rattle.outside.specs.declared.job_name.JobName.{JobName}
 use Rattle.outside.specs.declared.job_name.JobName.TheVariants as job
 use Rattle.outside.specs.declared.job_name.Pipe.{Pipe}
-use Rattle.outside.specs.declared.job_name.Pipe.TheVariants.{Full, Preview, Second}
 use Rattle.edit_steps.specs.Pipes.{has_pipe}
 use Rattle.edit_steps.specs.Script.{Recipe}
 use Rattle.turn_lock.specs.Story.{StartsWith, borne}
@@ -19,9 +18,8 @@ use Rattle.journal.specs.declared.desk.TicketState.TheVariants.{Waiting, Out, Do
 use Rattle.journal.specs.declared.entry.Entry.{Entry}
 use Rattle.journal.specs.declared.entry.Entry.TheVariants.{Changed, Asked, Settled, Closed, Took, Restarted, Published, GaveBack, TicketTook, TicketDone, TicketBack, Stopped}
 use Rattle.journal.specs.Pipes.{pipes}
-use Rattle.journal.specs.Tickets.{numbered}
 use Rattle.journal.specs.Lines.{Line}
-use Rattle.journal.specs.Desk.{Desk, start, next, desk_of, slot, is_free, is_up_to_date, is_due, is_at_rest, is_waiting, is_done, is_settled, is_complete, first_due, first_waiting, due, HoldsPipe, IsTicket, NextIs, May, LegalFrom, Legal, IsComplete, held_by}
+use Rattle.journal.specs.Desk.{Desk, start, next, desk_of, slot, is_free, is_up_to_date, is_due, is_at_rest, is_done, is_settled, first_due, first_waiting, due, HoldsPipe, May, LegalFrom, Legal, IsComplete, held_by}
 use Rattle.journal.specs.Own.{held, act_of, worker_of, job_at, HoldsJob}
 use Rattle.journal.proofs.DueLemmas.{both_on}
 use Rattle.journal.proofs.OwnLemmas.{says_now}

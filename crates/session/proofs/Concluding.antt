@@ -1,6 +1,6 @@
 -- what is known at the end of the passes that were given back
 use Rattle.std.proofs.Common.{◌≡◌, ℕ, ◌+◌, ◌<◌, ◌≤◌, Bool, true, List, [], ◌∷◌, ◌++◌, map, sym, ap, subst, ◌∙◌, arith}
-use Rattle.std.specs.List.{All, AllZip, Contains}
+use Rattle.std.specs.List.{All, Contains}
 use Rattle.std.proofs.lemmas.List.Elements.{All-contains}
 use Rattle.turn_lock.specs.Known.{IsIdle}
 use Rattle.turn_lock.specs.Story.{StartsWith, borne}

@@ -2,7 +2,6 @@
 use Rattle.std.proofs.Common.{◌≡◌, ℕ, List, map, refl}
 use Rattle.std.specs.List.{All}
 use Rattle.session.specs.declared.shared.Shared.{Shared}
-use Rattle.session.specs.declared.worker.Worker.{Worker}
 use Rattle.session.specs.Workers.{IsOfOne, Ready, fresh_worker, number_of}
 use Rattle.session.proofs.Listing.{All-map, map_same}
 

@@ -2,14 +2,13 @@
 use Rattle.std.specs.Prelude.{◌≡◌, ℕ, ◌+◌, ◌≤◌, true, List, [], map, Option, Some, None, Result, Ok, Err}
 use Rattle.std.specs.declared.alloc.AllocError.{AllocError}
 use Rattle.std.specs.List.{All, range_with_len}
-use Rattle.turn_lock.specs.Known.{Named, Known, fresh, IsIdle}
+use Rattle.turn_lock.specs.Known.{fresh, IsIdle}
 use Rattle.dev_core.specs.Subject.{SubjectSeen}
 use Rattle.dev_core.specs.Jobs.{JobSeen}
 use Rattle.shared_mips.specs.Story.{hold_of}
 use Rattle.desk.specs.declared.next_job.NextJob.{NextJob}
 use Rattle.desk.specs.declared.next_job.NextJob.TheVariants as given
 use Rattle.desk.specs.Passes.{HasJob, HasNoJob}
-use Rattle.pipe_worker.specs.declared.passes.Passes.{Passes}
 use Rattle.pipe_worker.specs.declared.node_set.NodeSet.{NodeSet}
 use Rattle.pipe_worker.specs.Job.{IsUpTo, is_pipe_job}
 use Rattle.pipe_worker.specs.Jobs.{IsSet, AreUpTo, last_at}

@@ -1,4 +1,4 @@
-use Rattle.std.proofs.Common.{◌≡◌, ◌∙◌, sym}
+use Rattle.std.proofs.Common.{◌∙◌, sym}
 use Rattle.turn_lock.specs.Known.{fresh}
 use Rattle.session.proofs.Listing.{range_last}
 use Rattle.session.proofs.beginning.last_worker.Goals as goal

@@ -1,7 +1,5 @@
-use Rattle.std.proofs.Common.{◌≡◌, ℕ, List, map, subst, sym, ap, ◌∙◌, Bool, Option}
-use Rattle.std.specs.Prelude.{IfSome}
+use Rattle.std.proofs.Common.{◌≡◌, ℕ, List, map, subst, sym, ap, ◌∙◌}
 use Rattle.std.specs.List.{All}
-use Rattle.desk.specs.Passes.{DeskKnown}
 use Rattle.session.specs.declared.worker.Worker.{Worker}
 use Rattle.session.specs.Workers.{Ready, number_of}
 use Rattle.session.specs.Finished.{Served, AreServed, down_from}
