@@ -1,61 +1,16 @@
 //! P6s written by bands of rows, side by side, so that no plane of the picture stands whole.
 ghost use Rattle.std.specs.Prelude.{◌≡◌, ℕ, ◌+◌, ◌*◌, ◌<◌, ◌≤◌, ◌++◌, List, length, slice_index, IfOk, OnOk};
-ghost use Rattle.std.specs.List.{flat_map};
 ghost use Rattle.px.specs.declared.kind.PlaneKind.TheVariants.{Rgb};
-ghost use Rattle.px.specs.declared.depth.Depth.TheVariants.{Eight, Sixteen};
 ghost use Rattle.px.specs.Area.{IsArea, whole_of};
 ghost use Rattle.px.specs.Bands.{AsksBands, GivesShaped, HasRow};
 ghost use Rattle.pnm.specs.ByteBands.{AreByteBands, IsTextOf, bytes_of};
-ghost use Rattle.pnm.specs.Pnm.{greatest, header, sample_bytes};
+ghost use Rattle.pnm.specs.Pnm.{greatest, header};
 
+use crate::encoding::{blank, greatest, sample_size, set_values};
 use crate::header::header_text;
-use px::{BandFiller, Depth, Plane, Region, WHITE, fill_bands};
+use px::{BandFiller, Depth, Plane, Region, fill_bands};
 use std::alloc::{AllocError, Global};
 use std::thread::Threads;
-
-// One byte a value.
-fn set_eight(values: &[u32], bytes: &mut [u8])
-    requires { length values.now ≡ length bytes.old }
-    ensures { bytes.new ≡ flat_map (sample_bytes Eight) values.now }
-{
-    for k in 0..values.len() {
-        bytes[k] = (values[k].min(WHITE) / 257) as u8;
-    }
-}
-
-// Two bytes a value, the most significant one first.
-fn set_sixteen(values: &[u32], bytes: &mut [u8])
-    requires { length bytes.old ≡ length values.now * 2 }
-    ensures { bytes.new ≡ flat_map (sample_bytes Sixteen) values.now }
-{
-    for k in 0..values.len() {
-        let sample = values[k].min(WHITE);
-        bytes[k * 2] = (sample / 256) as u8;
-        bytes[k * 2 + 1] = (sample % 256) as u8;
-    }
-}
-
-// How many bytes a written sample has.
-fn sample_size(depth: Depth) -> usize
-    ensures size { result ≡ bytes_of depth }
-    ensures small { result ≤ 2 }
-{
-    match depth {
-        Depth::Eight => 1,
-        Depth::Sixteen => 2,
-    }
-}
-
-// The bytes of values.
-fn set_values(depth: Depth, values: &[u32], bytes: &mut [u8])
-    requires { length bytes.old ≡ length values.now * bytes_of depth }
-    ensures { bytes.new ≡ flat_map (sample_bytes depth) values.now }
-{
-    match depth {
-        Depth::Eight => set_eight(values, bytes),
-        Depth::Sixteen => set_sixteen(values, bytes),
-    }
-}
 
 // Fills bands with the bytes of planes that a closure makes.
 #[derive(Drop)]
@@ -115,16 +70,6 @@ fn fill_text<R: Threads + Sync, F: Fn(Region) -> Result<Plane, AllocError> + Syn
     fill_bands(rt, filler, band, 0, filler.h, stride, raster)
 }
 
-// The greatest sample of a depth.
-fn greatest(depth: Depth) -> u32
-    ensures { result ≡ greatest depth }
-{
-    match depth {
-        Depth::Eight => 255,
-        Depth::Sixteen => 65_535,
-    }
-}
-
 /// The bytes of an RGB picture of sides `w` and `h` as a P6, as `write` makes them, from bands of at most
 /// `band` rows, which the closure makes side by side. They are those of each picture of which all bands are
 /// cuts.
@@ -149,11 +94,4 @@ pub fn write_bands<R: Threads + Sync, F: Fn(Region) -> Result<Plane, AllocError>
     let filler = ByBytes { depth, w, h, make };
     fill_text(rt, &filler, band, header.as_bytes(), &mut text)?;
     Ok(text)
-}
-
-// So many bytes, not written yet.
-fn blank(alloc: Global, count: usize) -> Result<Vec<u8>, AllocError>
-    ensures { IfOk result (λ v. length v.items ≡ count) }
-{
-    vec![in alloc; 0u8; count]
 }

@@ -3,6 +3,7 @@
 
 mod banding;
 mod decoding;
+mod encoding;
 mod fault;
 mod header;
 mod laws;

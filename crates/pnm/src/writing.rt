@@ -1,35 +1,24 @@
-ghost use Rattle.std.specs.Prelude.{◌≡◌, ℕ, ◌+◌, ◌*◌, ◌^◌, ◌<◌, ◌++◌, List, length, IfOk, OnOk};
+ghost use Rattle.std.specs.Prelude.{◌≡◌, ◌+◌, ◌*◌, ◌^◌, ◌<◌, ◌++◌, length, IfOk};
 ghost use Rattle.std.specs.List.{flat_map};
 ghost use Rattle.px.specs.declared.kind.PlaneKind.TheVariants.{Rgb};
-ghost use Rattle.px.specs.declared.depth.Depth.TheVariants.{Eight, Sixteen};
 ghost use Rattle.px.specs.Cut.{IsCutOf, IsWhole};
 ghost use Rattle.px.specs.Picture.{Picture};
-ghost use Rattle.pnm.specs.Pnm.{greatest, sample_bytes, written, written_values};
+ghost use Rattle.pnm.specs.ByteBands.{bytes_of};
+ghost use Rattle.pnm.specs.Pnm.{sample_bytes, written, written_values};
 
+use crate::encoding::{blank, greatest, sample_size, set_values};
 use crate::header::header_text;
-use px::{Depth, Plane, WHITE};
+use px::{Depth, Plane};
 use std::alloc::{AllocError, Global};
 
-// Adds one byte a value.
-fn add_eight(out: &mut Vec<u8>, values: &[u32]) -> Result<(), AllocError>
-    ensures { OnOk result (out.new.items ≡ out.old.items ++ flat_map (sample_bytes Eight) values.now) }
+// The header, and behind it the raster.
+fn set_text(head: &[u8], values: &[u32], depth: Depth, text: &mut [u8])
+    requires { length text.old ≡ length head.now + length values.now * bytes_of depth }
+    ensures { text.new ≡ head.now ++ flat_map (sample_bytes depth) values.now }
 {
-    for value in values {
-        out.push(((*value).min(WHITE) / 257) as u8)?;
-    }
-    Ok(())
-}
-
-// Adds two bytes a value, the most significant one first.
-fn add_sixteen(out: &mut Vec<u8>, values: &[u32]) -> Result<(), AllocError>
-    ensures { OnOk result (out.new.items ≡ out.old.items ++ flat_map (sample_bytes Sixteen) values.now) }
-{
-    for value in values {
-        let sample = (*value).min(WHITE);
-        out.push((sample / 256) as u8)?;
-        out.push((sample % 256) as u8)?;
-    }
-    Ok(())
+    let (front, raster) = text.split_at_mut(head.len());
+    front.copy_from_slice(head);
+    set_values(depth, values, raster);
 }
 
 // The bytes of the values of a picture of sides `w` and `h`.
@@ -43,22 +32,11 @@ fn write_values(
     requires { length values.now < 2 ^ 40 }
     ensures { IfOk result (λ b. b.items ≡ written_values w h values.now depth) }
 {
-    match depth {
-        Depth::Eight => {
-            let header = header_text(alloc, w, h, 255)?;
-            let mut out = Vec::with_capacity(alloc, header.len() + values.len())?;
-            out.extend_from_slice(header.as_bytes())?;
-            add_eight(&mut out, values)?;
-            Ok(out)
-        }
-        Depth::Sixteen => {
-            let header = header_text(alloc, w, h, 65_535)?;
-            let mut out = Vec::with_capacity(alloc, header.len() + 2 * values.len())?;
-            out.extend_from_slice(header.as_bytes())?;
-            add_sixteen(&mut out, values)?;
-            Ok(out)
-        }
-    }
+    let header = header_text(alloc, w, h, greatest(depth))?;
+    let head = header.as_bytes();
+    let mut text = blank(alloc, head.len() + values.len() * sample_size(depth))?;
+    set_text(head, values, depth, &mut text);
+    Ok(text)
 }
 
 /// The bytes of a whole RGB picture as a P6: the header `P6`, the sides and the greatest sample, each

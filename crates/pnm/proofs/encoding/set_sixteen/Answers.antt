@@ -1,6 +1,6 @@
 use Rattle.std.proofs.Common.{◌≡◌, arith}
 use Rattle.pnm.proofs.ByteLemmas.{sixteen_all}
-use Rattle.pnm.proofs.banding.set_sixteen.Goals as goal
+use Rattle.pnm.proofs.encoding.set_sixteen.Goals as goal
 
 pub returns : goal.returns
 returns c = sixteen_all c.args.values.now c.loop-k.bytes (omega arith) (λ i below. c.loop-k.invariant i (omega arith))
