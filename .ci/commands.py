@@ -4,7 +4,8 @@
 A command is a line of a block of `sh` that begins with `bin/devcore`; lines that begin with `python3` prepare files for
 those after them. All lines of a document run in turn in one temporary folder, in which `examples` is the repository's. What
 the commands of a block say is the block of `text` behind it. What they write, and their exit status, stand in
-.ci/written.txt: a line for each command with its status, then one for each file, with its SHA-256 and name. These answers
+.ci/written.txt: a line for each command with its status, then one for each file, with its SHA-256 and name; of a session's
+manifest that of its sorted lines, since threads publish in any order. These answers
 come from .ci/formulas.py, and not from the program.
 
 The pictures of docs/pictures are made once more and compared pixel by pixel. The blocks of `json` of the guide stand in the
@@ -47,17 +48,20 @@ def answers():
     return known
 
 
-def digests(folder):
-    return {
-        p.name: hashlib.sha256(p.read_bytes()).hexdigest() for p in folder.iterdir() if p.is_file()
-    }
+def digests(folder, in_turn):
+    """Each file's SHA-256. Where threads publish, the lines of the manifest are sorted first: they come in any order."""
+    found = {p.name: p.read_bytes() for p in folder.iterdir() if p.is_file()}
+    if "manifest.txt" in found and not in_turn:
+        found["manifest.txt"] = b"".join(sorted(found["manifest.txt"].splitlines(keepends=True)))
+    return {name: hashlib.sha256(text).hexdigest() for name, text in found.items()}
 
 
 def try_command(line, folder, known):
     """Runs one command in the folder, compares what it writes, and gives what it says."""
-    before = digests(folder)
+    in_turn = not line.startswith("bin/devcore session ")
+    before = digests(folder, in_turn)
     run = subprocess.run([PROGRAM, *shlex.split(line)[1:]], cwd=folder, capture_output=True, text=True)
-    written = {name: d for name, d in digests(folder).items() if before.get(name) != d}
+    written = {name: d for name, d in digests(folder, in_turn).items() if before.get(name) != d}
     if known.get(line) != (run.returncode, written):
         wrong.append(f"{line}: status {run.returncode} and {written} for {known.get(line)}")
     for name in written:

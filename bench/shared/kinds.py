@@ -51,19 +51,25 @@ KINDS = {
     },
 }
 
-for name, kind in KINDS.items():
-    kind["MAKE"] = made(kind["LOCK"], kind["PASS"], kind["MAKE"])
-    for template, place in (
-        ("turns.rt.txt", "src/main.rt"),
-        ("take_turns.Invariants.antt.txt", "proofs/take_turns/Invariants.antt"),
-    ):
-        text = (HERE / template).read_text().replace("@NAME@", name)
-        for key, value in kind.items():
+TURNS = {"turns.rt.txt": "src/main.rt", "take_turns.Invariants.antt.txt": "proofs/take_turns/Invariants.antt"}
+
+
+def write(name, kind, templates):
+    """The crate of these templates, and its line in crates.txt."""
+    values = kind | {"NAME": name, "MAKE": made(kind["LOCK"], kind["PASS"], kind["MAKE"])}
+    for template, place in templates.items():
+        text = (HERE / template).read_text()
+        for key, value in values.items():
             text = text.replace(f"@{key}@", value)
         file = WORK / "crates" / name / place
         file.parent.mkdir(parents=True, exist_ok=True)
         file.write_text(text)
     (WORK / "crates" / name / "specs").mkdir(exist_ok=True)
     (WORK / "crates" / name / "stdin").touch()
-    LINES = LINES.rstrip("\n") + f"\n{name}:{under(kind['CRATE'])}{' pnm' if 'pnm' not in under(kind['CRATE']).split() else ''}\n"
-CRATES.write_text(LINES)
+    below = under(kind["CRATE"])
+    return f"{name}:{below}{' pnm' if 'pnm' not in below.split() else ''}"
+
+
+lines = [write(name, kind, TURNS) for name, kind in KINDS.items()]
+lines.append(write("waiting", KINDS["turns_desk"], {"waiting.rt.txt": "src/main.rt"}))
+CRATES.write_text(LINES.rstrip("\n") + "\n" + "\n".join(lines) + "\n")

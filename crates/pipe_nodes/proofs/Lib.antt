@@ -11,4 +11,5 @@ pub mod CourseLemmas
 pub mod SameLemmas
 pub mod ApplyLemmas
 pub mod ScaleLemmas
+pub mod UnscaledLemmas
 pub mod WindowLemmas

@@ -191,6 +191,34 @@ impl RowPainter for ScaledRows<'_> {
     }
 }
 
+// A region of a plane as a picture of its own: by a factor of 1 each block is one pixel.
+fn unscaled_part(
+    alloc: Global,
+    plane: &Plane,
+    left: u32,
+    top: u32,
+    columns: u32,
+    rows: u32,
+) -> Result<Plane, AllocError>
+    requires rgb { plane.now.kind ≡ Rgb }
+    requires fits { Fits left top columns rows }
+    requires inside { IsIn (record { x = left; y = top; w = columns; h = rows }) plane.now.w plane.now.h }
+    requires covers { Covers plane.now.area (record { x = left; y = top; w = columns; h = rows }) }
+    ensures whole { IfOk result IsWhole }
+    ensures rgb { IfOk result (λ p. p.kind ≡ Rgb) }
+    ensures cut { IfOk result (λ p. (q : Picture) → IsCutOf q plane.now → IsCutOf (part_of (record { x = left; y = top; w = columns; h = rows }) (scaled 1 q)) p) }
+{
+    let region = Region {
+        x: left,
+        y: top,
+        w: columns,
+        h: rows,
+    };
+    let part = plane.cut(alloc, region)?;
+    let whole = Region::whole(columns, rows);
+    Ok(Plane::from_rows(PlaneKind::Rgb, columns, rows, whole, part.into_values()))
+}
+
 // A region of a plane scaled down by a factor, as a picture of its own, its rows side by side. The
 // plane covers the blocks of the region's pixels.
 pub(crate) fn scaled_part<R: Threads + Sync>(
@@ -216,6 +244,9 @@ pub(crate) fn scaled_part<R: Threads + Sync>(
 {
     let (w, h) = plane.sides();
     prove!(scaled_side(w, factor) <= w && scaled_side(h, factor) <= h);
+    if factor == 1 {
+        return unscaled_part(alloc, plane, left, top, columns, rows);
+    }
     let painter = ScaledRows {
         plane,
         factor,

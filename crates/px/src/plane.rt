@@ -76,7 +76,7 @@ impl Plane {
     }
 
     /// The values, row by row, in place of the plane. Takes no memory.
-    pub(crate) fn into_values(self) -> Vec<u32>
+    pub fn into_values(self) -> Vec<u32>
         ensures values { result.items ≡ self.values }
         ensures valid { IsPlane self }
     {
