@@ -29,7 +29,7 @@ pub use depth::Depth;
 pub use editing::{repaint, repaint_rows};
 pub use kind::{Cfa, Colour, PlaneKind};
 pub use means::box_mean;
-pub use number::{clamp_small, clamp_top, join_floor, mul_floor, scale_floor};
+pub use number::{clamp_small, clamp_top, join_floor, mul_floor, part_floor, scale_floor};
 pub use painting::{paint, paint_in_turn};
 pub use plane::Plane;
 pub use region::Region;
