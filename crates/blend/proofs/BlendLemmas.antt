@@ -1,5 +1,5 @@
 -- planes blended pixel by pixel
-use Rattle.std.proofs.Common.{◌≡◌, ℕ, ◌<◌, List, [], ◌∷◌, slice_index, Option, refl, sym, ap, ◌∙◌, subst, arith}
+use Rattle.std.proofs.Common.{◌≡◌, ℕ, ◌<◌, slice_index, Option, refl, sym, ap, ◌∙◌, subst, arith}
 use Rattle.params.specs.declared.blending.Blend.{Blend}
 use Rattle.px.specs.declared.kind.PlaneKind.TheVariants.{Rgb}
 use Rattle.px.specs.Area.{Area, HasPixel, Covers}
@@ -10,22 +10,17 @@ use Rattle.px.specs.Picture.{Picture}
 use Rattle.px.specs.Repainted.{IsRepainted}
 use Rattle.px.proofs.RowLemmas.{three}
 use Rattle.blend.specs.Blending.{blended, blended_picture, covered, IsBlended, IsCoveredBy}
+use Rattle.blend.specs.Rows.{blended_pixel, lays}
 
--- red, green and blue of a pixel: i is the input's, m the output's
-abbrev pub blended_pixel : Blend → ℕ → (ℕ → ℕ) → List ℕ → List ℕ
-blended_pixel b k i m = blended b k (i 0) (slice_index m 0) ∷ blended b k (i 1) (slice_index m 1) ∷ blended b k (i 2) (slice_index m 2) ∷ []
-
--- a plane that was changed by a closure that blends
-pub blended_of : (b : Blend) (cover : Option CoverSeen) (input output p : Cut) (post : ℕ → ℕ → List ℕ → List ℕ → Type 0) → IsRepainted post output p
-    → ((x y : ℕ) (m r : List ℕ) → post x y m r → r ≡ blended_pixel b (covered cover x y) (value_at input x y) m)
-    → IsBlended b cover input output p
-blended_of b cover input output p post painted is = record {
+-- a plane whose rows were laid over the input's
+pub blended_of : (b : Blend) (cover : Option CoverSeen) (input output p : Cut) → IsRepainted (lays b cover input) output p → IsBlended b cover input output p
+blended_of b cover input output p painted = record {
   shape = painted.shape;
   pixels = λ x y c inside below.
       let pixel = painted.pixels x y inside in
       let k = covered cover x y in
       sym (pixel.same c below)
-      ∙ (ap (λ r. slice_index r c) (is x y (rgb_at output x y) pixel.answer pixel.given)
+      ∙ (ap (λ r. slice_index r c) pixel.given
       ∙ three (λ n. slice_index (blended_pixel b k (value_at input x y) (rgb_at output x y)) n ≡ blended b k (value_at input x y n) (value_at output x y n)) refl refl refl c below);
 }
 

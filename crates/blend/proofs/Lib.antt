@@ -1,1 +1,2 @@
 pub mod BlendLemmas
+pub mod RowLemmas

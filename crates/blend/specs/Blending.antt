@@ -29,9 +29,13 @@ laid_over Average i m = pos ((i + m) / 2)
 abbrev pub alpha : ℕ → ℕ → ℕ
 alpha opacity coverage = opacity * coverage / 65536
 
+-- the input's value moved by so many 65536ths towards what the mode makes of it and the output's value m
+abbrev pub moved : Mode → ℕ → ℕ → ℕ → ℕ
+moved mode part i m = clamp (pos i +ℤ floor_div (pos part *ℤ (laid_over mode i m -ℤ pos i)) 65536)
+
 -- the input's value moved towards what the mode makes
 abbrev pub blended : Blend → ℕ → ℕ → ℕ → ℕ
-blended b coverage i m = clamp (pos i +ℤ floor_div (pos (alpha b.opacity coverage) *ℤ (laid_over b.mode i m -ℤ pos i)) 65536)
+blended b coverage i m = moved b.mode (alpha b.opacity coverage) i m
 
 -- how far a pixel is covered: whole where there is no cover
 abbrev pub covered : Option CoverSeen → ℕ → ℕ → ℕ

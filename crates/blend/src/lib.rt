@@ -3,5 +3,7 @@
 
 mod blending;
 mod laying;
+mod modes;
+mod overlay;
 
 pub use blending::blend;

@@ -6,3 +6,4 @@ pub mod NineLemmas
 pub mod PairLemmas
 pub mod RangeLemmas
 pub mod WindowLemmas
+pub mod ScaleLemmas

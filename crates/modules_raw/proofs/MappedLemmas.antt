@@ -1,5 +1,7 @@
 -- rows whose values are changed by their colours alone
-use Rattle.std.proofs.Common.{◌≡◌, ℕ, ◌+◌, ◌*◌, ◌%◌, ◌<◌, ◌≤◌, List, length, slice_index, refl, sym, ap, ◌∙◌, ⊎_elim, arith}
+use Rattle.std.proofs.Common.{◌≡◌, ◌≢◌, ℕ, zero, suc, ◌+◌, ◌*◌, ◌/◌, ◌%◌, ◌<◌, ◌≤◌, List, [], ◌∷◌, length, set, slice_index, get_or-set_other, get_or-set_same, refl, sym, ap, ◌∙◌, subst, ⊎_elim, arith}
+use Rattle.std.proofs.Math.ListN.{length-set}
+use Rattle.std.proofs.lemmas.Nat.{div-add-mod', div_below, mod_below, mul-add-lt}
 use Rattle.std.proofs.lemmas.Bool.{cases_lt}
 use Rattle.std.proofs.lemmas.List.{get_or_past}
 use Rattle.px.specs.declared.kind.Cfa.{Cfa}
@@ -7,13 +9,114 @@ use Rattle.px.specs.declared.kind.PlaneKind.TheVariants.{Mosaic, Rgb}
 use Rattle.px.specs.Area.{HasPixel}
 use Rattle.px.specs.Cut.{Cut, IsCutOf, value_at}
 use Rattle.px.specs.Kind.{channels}
-use Rattle.px.specs.Mosaic.{channel_at, channel_in}
+use Rattle.px.specs.Mosaic.{channel_at, channel_by, channel_in}
 use Rattle.px.specs.Painted.{IsRow}
 use Rattle.px.specs.Picture.{Picture, pixel_by, pixel_of}
 use Rattle.px.proofs.PaintedLemmas.{channel_of_pixel}
 use Rattle.px.proofs.PixelLemmas.{IsOwnRow, own_value, pixel_top, pixel_by_same}
-use Rattle.px.proofs.RowLemmas.{value_fits}
-use Rattle.modules_raw.specs.Mapped.{mapped, IsMapped}
+use Rattle.px.proofs.RowLemmas.{AddsPixel, three, value_fits}
+use Rattle.modules_raw.specs.Mapped.{mapped, AreChanged, IsInTurn, IsMapped, second_in, third_in}
+
+two : (P : ℕ → Type 0) → P 0 → P 1 → (c : ℕ) → c < 2 → P c
+two P a b zero h = a
+two P a b (suc zero) h = b
+two P a b (suc (suc n)) h = absurd (omega arith)
+
+-- two writes, one after another, at the places of a group
+pub adds_two : (k at : ℕ) (row answer : List ℕ) → at ≡ k * 2 → at + 2 ≤ length row
+    → AddsPixel 2 k row answer (set (set row at (slice_index answer 0)) (at + 1) (slice_index answer 1))
+adds_two k at row answer e fits =
+    let s0 = set row at (slice_index answer 0) in
+    let l0 = length-set {A = ℕ} row at (slice_index answer 0) in
+    let row' = set s0 (at + 1) (slice_index answer 1) in
+    let other : (i : ℕ) → i ≢ at → i ≢ at + 1 → slice_index row' i ≡ slice_index row i = (λ i n0 n1. get_or-set_other s0 (at + 1) i _ 0 n1 ∙ get_or-set_other row at i _ 0 n0) in
+    record {
+      before = λ i h. other i (omega arith) (omega arith);
+      here = two (λ c. slice_index row' (k * 2 + c) ≡ slice_index answer c)
+          (let i : k * 2 + 0 ≡ at = omega arith in rw i (get_or-set_other s0 (at + 1) at _ 0 (omega arith) ∙ get_or-set_same row at _ 0 (omega arith)))
+          (let i : k * 2 + 1 ≡ at + 1 = omega arith in rw i (get_or-set_same s0 (at + 1) _ 0 (omega arith)));
+      after = λ i h. other i (omega arith) (omega arith);
+    }
+
+-- a further group is changed
+changed_more : (size k : ℕ) (f : ℕ → ℕ → ℕ) (from row answer row' : List ℕ) → AreChanged size k f from row
+    → ((c : ℕ) → c < size → slice_index answer c ≡ f c (slice_index from (k * size + c))) → ((c : ℕ) → c < size → slice_index answer c ≤ 1048575)
+    → AddsPixel size k row answer row' → AreChanged size (k + 1) f from row'
+changed_more size k f from row answer row' was is top adds = record {
+  values = λ j c h d. ⊎_elim
+      (λ (below : j < k). adds.before (j * size + c) (omega (arith, mul-add-lt j size c k below d)) ∙ was.values j c below d)
+      (λ (past : k ≤ j). let j_is : j ≡ k = omega arith in rw j_is (adds.here c d ∙ is c d))
+      (cases_lt j k);
+  top = λ j c h d. ⊎_elim
+      (λ (below : j < k). rw (adds.before (j * size + c) (omega (arith, mul-add-lt j size c k below d))) (was.top j c below d))
+      (λ (past : k ≤ j). let j_is : j ≡ k = omega arith in rw (j_is, adds.here c d) (top c d))
+      (cases_lt j k);
+}
+
+pub pairs_more : (f g : ℕ → ℕ) (k : ℕ) (from row row' : List ℕ) (a b : ℕ) → AreChanged 2 k (second_in f g) from row
+    → a ≡ f (slice_index from (k * 2)) → b ≡ g (slice_index from (k * 2 + 1)) → a ≤ 1048575 → b ≤ 1048575
+    → AddsPixel 2 k row (a ∷ b ∷ []) row' → AreChanged 2 (k + 1) (second_in f g) from row'
+pairs_more f g k from row row' a b was a_is b_is a_top b_top adds =
+    let first : k * 2 ≡ k * 2 + 0 = omega arith in
+    changed_more 2 k (second_in f g) from row (a ∷ b ∷ []) row' was
+    (two (λ c. slice_index (a ∷ b ∷ []) c ≡ second_in f g c (slice_index from (k * 2 + c))) (a_is ∙ ap (λ i. f (slice_index from i)) first) b_is)
+    (two (λ c. slice_index (a ∷ b ∷ []) c ≤ 1048575) a_top b_top) adds
+
+pub threes_more : (f g h : ℕ → ℕ) (k : ℕ) (from row row' : List ℕ) (a b d : ℕ) → AreChanged 3 k (third_in f g h) from row
+    → a ≡ f (slice_index from (k * 3)) → b ≡ g (slice_index from (k * 3 + 1)) → d ≡ h (slice_index from (k * 3 + 2)) → a ≤ 1048575 → b ≤ 1048575 → d ≤ 1048575
+    → AddsPixel 3 k row (a ∷ b ∷ d ∷ []) row' → AreChanged 3 (k + 1) (third_in f g h) from row'
+threes_more f g h k from row row' a b d was a_is b_is d_is a_top b_top d_top adds =
+    let first : k * 3 ≡ k * 3 + 0 = omega arith in
+    changed_more 3 k (third_in f g h) from row (a ∷ b ∷ d ∷ []) row' was
+    (three (λ c. slice_index (a ∷ b ∷ d ∷ []) c ≡ third_in f g h c (slice_index from (k * 3 + c))) (a_is ∙ ap (λ i. f (slice_index from i)) first) b_is d_is)
+    (three (λ c. slice_index (a ∷ b ∷ d ∷ []) c ≤ 1048575) a_top b_top d_top) adds
+
+-- a value of a row that is changed in groups
+changed_at : (size n i : ℕ) (f : ℕ → ℕ → ℕ) (from row : List ℕ) → AreChanged size n f from row → 0 < size → i < n * size → slice_index row i ≡ f (i % size) (slice_index from i)
+changed_at size n i f from row are some below =
+    let place : i / size * size + i % size ≡ i = div-add-mod' i size in
+    subst (λ k. slice_index row k ≡ f (i % size) (slice_index from k)) place (are.values (i / size) (i % size) (div_below i size n some below) (mod_below i size some))
+
+changed_top : (size n i : ℕ) (f : ℕ → ℕ → ℕ) (from row : List ℕ) → AreChanged size n f from row → 0 < size → i < n * size → slice_index row i ≤ 1048575
+changed_top size n i f from row are some below =
+    let place : i / size * size + i % size ≡ i = div-add-mod' i size in
+    subst (λ k. slice_index row k ≤ 1048575) place (are.top (i / size) (i % size) (div_below i size n some below) (mod_below i size some))
+
+-- a row of whole groups
+pub turn_of_groups : (size n : ℕ) (f : ℕ → ℕ → ℕ) (from row : List ℕ) → AreChanged size n f from row → 0 < size → length from ≡ n * size → IsInTurn size f from row
+turn_of_groups size n f from row are some len = record {
+  values = λ i below. changed_at size n i f from row are some (omega (arith, len, below));
+  top = λ i below. changed_top size n i f from row are some (omega (arith, len, below));
+}
+
+-- a row of pairs and one value more
+pub turn_with_last : (n last v : ℕ) (f : ℕ → ℕ → ℕ) (from row : List ℕ) → AreChanged 2 n f from row → length from ≡ n * 2 + 1 → length row ≡ length from → last ≡ n * 2
+    → v ≡ f 0 (slice_index from last) → v ≤ 1048575 → IsInTurn 2 f from (set row last v)
+turn_with_last n last v f from row are len row_len last_is v_is top = record {
+  values = λ i below. ⊎_elim
+      (λ (before : i < n * 2). get_or-set_other row last i v 0 (omega (arith, last_is)) ∙ changed_at 2 n i f from row are (omega arith) before)
+      (λ (past : n * 2 ≤ i). let here : i ≡ last = omega arith in let even : i % 2 ≡ 0 = omega (arith, last_is) in
+      rw (even, here) (get_or-set_same row last v 0 (omega arith) ∙ v_is))
+      (cases_lt i (n * 2));
+  top = λ i below. ⊎_elim
+      (λ (before : i < n * 2). rw (get_or-set_other row last i v 0 (omega (arith, last_is))) (changed_top 2 n i f from row are (omega arith) before))
+      (λ (past : n * 2 ≤ i). let here : i ≡ last = omega arith in rw (here, get_or-set_same row last v 0 (omega arith)) top)
+      (cases_lt i (n * 2));
+}
+
+-- the channels of a mosaic's row are two in turn
+pub turn_of_mosaic : (cfa : Cfa) (x y i v : ℕ) (makes : ℕ → ℕ → ℕ) (f g : ℕ → ℕ) → f v ≡ makes (channel_at cfa x y) v → g v ≡ makes (channel_at cfa (x + 1) y) v
+    → second_in f g (i % 2) v ≡ makes (channel_at cfa (x + i) y) v
+turn_of_mosaic cfa x y i v makes f g first second = ⊎_elim
+    (λ (even : i % 2 < 1). let c : i % 2 ≡ 0 = omega arith in let column : x % 2 ≡ (x + i) % 2 = omega arith in
+    rw c (first ∙ ap (λ p. makes (channel_by cfa p (y % 2)) v) column))
+    (λ (odd : 1 ≤ i % 2). let c : i % 2 ≡ 1 = omega arith in let column : (x + 1) % 2 ≡ (x + i) % 2 = omega arith in
+    rw c (second ∙ ap (λ p. makes (channel_by cfa p (y % 2)) v) column))
+    (cases_lt (i % 2) 1)
+
+-- those of an RGB row are three
+pub turn_of_rgb : (i v : ℕ) (makes : ℕ → ℕ → ℕ) (f g h : ℕ → ℕ) → f v ≡ makes 0 v → g v ≡ makes 1 v → h v ≡ makes 2 v → third_in f g h (i % 3) v ≡ makes (i % 3) v
+turn_of_rgb i v makes f g h red green blue = three (λ c. third_in f g h c v ≡ makes c v) red green blue (i % 3) (mod_below i 3 (omega arith))
 
 -- each value of the row is what is made of the old one and its channel
 pub record IsMade (p : Cut) (makes : ℕ → ℕ → ℕ) (x y n : ℕ) (from row : List ℕ) : Type 0 where

@@ -1,4 +1,4 @@
-ghost use Rattle.std.specs.Prelude.{◌≡◌, ◌<◌, ◌≤◌, IfOk};
+ghost use Rattle.std.specs.Prelude.{◌≡◌, ◌<◌, ◌≤◌, slice_index, IfOk};
 ghost use Rattle.params.specs.declared.settings.Params.TheVariants.{Temperature as temperature_params};
 ghost use Rattle.params.specs.Ranges.{IsWithin};
 ghost use Rattle.px.specs.Area.{Covers};
@@ -7,11 +7,42 @@ ghost use Rattle.px.specs.Picture.{Picture};
 ghost use Rattle.modules_raw.specs.Balancing.{balanced_picture};
 
 use crate::channel_map::ChannelMap;
+use crate::in_turn::{ValueMap, map_pairs, map_threes};
 use crate::mapping::{map_in_turn, map_region};
 use params::Temperature;
-use px::{Plane, Region, TOP};
+use px::{Plane, Region, clamp_small, scale_floor};
 use std::alloc::{AllocError, Global};
 use std::thread::Threads;
+
+// The multiplier of one channel.
+#[derive(Drop)]
+struct Gain {
+    mul: u32,
+}
+
+impl ValueMap for Gain {
+    ghost use Rattle.modules_raw.specs.Balancing.{gained};
+
+    ghost allows = { λ g. g.mul ≤ 32768 };
+
+    ghost makes = { λ g v. gained g.mul v };
+
+    #[inline(always)]
+    fn change(&self, value: u32) -> u32 {
+        clamp_small(scale_floor(value as i32, self.mul, 12))
+    }
+}
+
+// The multiplier of a channel.
+fn gain_of(params: &Temperature, channel: u32) -> Gain
+    requires within { IsWithin (temperature_params params.now) }
+    requires channel { channel < 3 }
+    ensures mul { result.mul ≡ slice_index params.now.mul channel }
+    ensures small { result.mul ≤ 32768 }
+{
+    let mul = params.mul[channel as usize];
+    Gain { mul }
+}
 
 impl ChannelMap for Temperature {
     ghost use Rattle.params.specs.declared.settings.Params.TheVariants.{Temperature as temperature_params};
@@ -22,9 +53,18 @@ impl ChannelMap for Temperature {
 
     ghost makes = { λ t c v. balanced t c v };
 
-    fn change(&self, channel: u32, value: u32) -> u32 {
-        let multiplied = u64::from(value) * u64::from(self.mul[channel as usize]) / 4096;
-        multiplied.min(u64::from(TOP)) as u32
+    fn change_pairs(&self, first: u32, second: u32, from: &[u32], row: &mut [u32]) {
+        map_pairs(&gain_of(self, first), &gain_of(self, second), from, row);
+    }
+
+    fn change_threes(&self, from: &[u32], row: &mut [u32]) {
+        map_threes(
+            &gain_of(self, 0),
+            &gain_of(self, 1),
+            &gain_of(self, 2),
+            from,
+            row,
+        );
     }
 }
 

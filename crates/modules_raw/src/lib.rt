@@ -8,6 +8,7 @@ mod balancing;
 mod channel_map;
 mod demosaicing;
 mod edges;
+mod in_turn;
 mod levelling;
 mod levels;
 mod mapping;

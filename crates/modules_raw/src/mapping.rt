@@ -1,5 +1,5 @@
 //! The kernels of modules that change each value by its colour alone.
-ghost use Rattle.std.specs.Prelude.{◌≡◌, ℕ, ◌+◌, ◌%◌, ◌<◌, ◌≤◌, length, slice_index, IfOk};
+ghost use Rattle.std.specs.Prelude.{◌≡◌, ℕ, ◌+◌, ◌<◌, ◌≤◌, length, slice_index, IfOk};
 ghost use Rattle.px.specs.Area.{Covers};
 ghost use Rattle.px.specs.Cut.{IsCutOf};
 ghost use Rattle.px.specs.Mosaic.{channel_at};
@@ -22,23 +22,7 @@ fn map_mosaic<M: ChannelMap>(map: &M, cfa: Cfa, x: u32, y: u32, from: &[u32], ro
 {
     let first = cfa.channel(x, y);
     let second = cfa.channel(x + 1, y);
-    for k in 0..from.len() {
-        let channel = if k % 2 == 0 { first } else { second };
-        row[k] = map.change(channel, from[k]);
-    }
-}
-
-// Changes a row of RGB pixels.
-fn map_rgb<M: ChannelMap>(map: &M, from: &[u32], row: &mut [u32])
-    requires allows { M.allows map.now }
-    requires len { length from.now ≡ length row.old }
-    requires top { (i : ℕ) → slice_index from.now i ≤ 1048575 }
-    ensures values { (i : ℕ) → i < length from.now → slice_index row.new i ≡ M.makes map.now (i % 3) (slice_index from.now i) }
-    ensures top { (i : ℕ) → i < length from.now → slice_index row.new i ≤ 1048575 }
-{
-    for k in 0..from.len() {
-        row[k] = map.change((k % 3) as u32, from[k]);
-    }
+    map.change_pairs(first, second, from, row);
 }
 
 // Paints the changed rows of a plane.
@@ -67,7 +51,7 @@ impl<M: ChannelMap> RowPainter for MappedRows<'_, M> {
         let from = input.row(x, y, n);
         match input.kind() {
             PlaneKind::Mosaic(cfa) => map_mosaic(self.map, cfa, x, y, from, row),
-            PlaneKind::Rgb => map_rgb(self.map, from, row),
+            PlaneKind::Rgb => self.map.change_threes(from, row),
         }
     }
 }

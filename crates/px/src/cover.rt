@@ -1,4 +1,4 @@
-ghost use Rattle.std.specs.Prelude.{◌≡◌, ℕ, ◌≤◌, slice_index};
+ghost use Rattle.std.specs.Prelude.{◌≡◌, ℕ, ◌+◌, ◌-◌, ◌*◌, ◌<◌, ◌≤◌, length, slice_index};
 ghost use Rattle.px.specs.Area.{HasPixel};
 ghost use Rattle.px.specs.Cover.{IsCover, cover_at};
 
@@ -48,13 +48,35 @@ impl Cover {
         self.values.as_slice()
     }
 
+    // Where the value of the pixel in column `x` and row `y` stands.
+    fn place(&self, x: u32, y: u32) -> usize
+        requires pixel { HasPixel self.now.area x y }
+        ensures place { result ≡ (y - self.now.area.y) * self.now.area.w + (x - self.now.area.x) }
+        ensures within { result < length self.now.values }
+    {
+        (y - self.region.y) as usize * self.region.w as usize + (x - self.region.x) as usize
+    }
+
+    /// How far `n` pixels of row `y` are covered, from column `x` on.
+    pub fn row(&self, x: u32, y: u32, n: u32) -> &[u32]
+        requires first { HasPixel self.now.area x y }
+        requires last { x + n ≤ self.now.area.x + self.now.area.w }
+        ensures values { (k : ℕ) → k < n → slice_index result.now k ≡ cover_at self.now (x + k) y }
+        ensures len { length result.now ≡ n }
+        ensures top { (i : ℕ) → slice_index result.now i ≤ 65536 }
+    {
+        let values = self.values();
+        let from = self.place(x, y);
+        &values[from..from + n as usize]
+    }
+
     /// How far the pixel in column `x` and row `y` of the whole picture is covered.
     pub fn at(&self, x: u32, y: u32) -> u32
         requires pixel { HasPixel self.now.area x y }
         ensures value { result ≡ cover_at self.now x y }
         ensures top { result ≤ 65536 }
     {
-        let row = (y - self.region.y) as usize * self.region.w as usize;
-        self.values[row + (x - self.region.x) as usize]
+        let at = self.place(x, y);
+        self.values[at]
     }
 }

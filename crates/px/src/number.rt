@@ -62,6 +62,64 @@ pub fn scale_floor(a: i32, b: u32, shift: u32) -> i32
     join_floor(product(a, b / 256), product(a, b % 256), shift)
 }
 
+// How many times 4,096 goes into a number, rounded towards minus infinity.
+#[inline(always)]
+fn upper_part(v: i32) -> i32
+    requires { unsigned_abs v ≤ 67108864 }
+    ensures value { result ≡ floor_div v 4096 }
+    ensures small { unsigned_abs result ≤ 16384 }
+{
+    v >> 12
+}
+
+// What is over then.
+#[inline(always)]
+fn lower_part(v: i32, upper: i32) -> i32
+    requires small { unsigned_abs v ≤ 67108864 }
+    requires upper { upper ≡ floor_div v 4096 }
+    ensures value { v ≡ upper *ℤ pos 4096 +ℤ result }
+    ensures small { unsigned_abs result ≤ 4095 }
+{
+    v - upper * 4096
+}
+
+// So many times a number's upper part.
+#[inline(always)]
+fn times_upper(part: u32, upper: i32) -> i32
+    requires part { part ≤ 65536 }
+    requires small { unsigned_abs upper ≤ 16384 }
+    ensures product { result ≡ pos part *ℤ upper }
+    ensures small { unsigned_abs result ≤ 1073741824 }
+{
+    part as i32 * upper
+}
+
+// So many times its lower part.
+#[inline(always)]
+fn times_lower(part: u32, lower: i32) -> i32
+    requires part { part ≤ 65536 }
+    requires small { unsigned_abs lower ≤ 4095 }
+    ensures product { result ≡ pos part *ℤ lower }
+    ensures small { unsigned_abs result ≤ 268369920 }
+{
+    part as i32 * lower
+}
+
+/// `floor(part * v / 65536)`, rounded towards minus infinity, within 32 bits: so many 65,536ths of a
+/// number that may be some sixty times as large as a sample.
+#[inline(always)]
+pub fn part_floor(part: u32, v: i32) -> i32
+    requires part { part ≤ 65536 }
+    requires number { unsigned_abs v ≤ 67108864 }
+    ensures value { result ≡ floor_div (pos part *ℤ v) 65536 }
+    ensures small { unsigned_abs result ≤ 1342111744 }
+{
+    let upper = upper_part(v);
+    let high = times_upper(part, upper);
+    let low = times_lower(part, lower_part(v, upper));
+    shift_floor(high + shift_floor(low, 12), 4)
+}
+
 /// The nearest value of a sample: at least 0 and at most `TOP`.
 pub fn clamp_top(v: i64) -> u32
     ensures { result ≡ clamp v }

@@ -10,10 +10,10 @@ loop-j-preserved g c =
 
 pub edit_row-requires-clause-asks : goal.edit_row-requires-clause-asks
 edit_row-requires-clause-asks g c k below =
-    let kept = row_kept (goal.F-post g c.args.f.now) c.args.x c.args.y c.args.w c.loop-j.j (c.loop-j.j * (c.args.w * 3)) _ k c.args.values.now c.loop-j.values c.loop-j.invariant refl (omega arith) below in
-    subst (λ t. goal.F-pre g c.args.f.now (c.args.x + k) (c.args.y + c.loop-j.j) t) (sym kept) (c.requires.asks c.loop-j.j k c.loop-j-test.true below)
+    let kept = row_kept (g.E.RowEditor.gives c.args.editor.now) c.args.x c.args.y c.args.w c.loop-j.j (c.loop-j.j * (c.args.w * 3)) _ k c.args.values.now c.loop-j.values c.loop-j.invariant refl (omega arith) below in
+    subst (λ t. g.E.RowEditor.asks c.args.editor.now (c.args.x + k) (c.args.y + c.loop-j.j) t) (sym kept) (c.requires.asks c.loop-j.j k c.loop-j-test.true below)
 
 pub edit_row-requires-clause-gives : goal.edit_row-requires-clause-gives
 edit_row-requires-clause-gives g c k r below given =
-    let kept = row_kept (goal.F-post g c.args.f.now) c.args.x c.args.y c.args.w c.loop-j.j (c.loop-j.j * (c.args.w * 3)) _ k c.args.values.now c.loop-j.values c.loop-j.invariant refl (omega arith) below in
-    c.requires.gives c.loop-j.j k r c.loop-j-test.true below (subst (λ t. goal.F-post g c.args.f.now (c.args.x + k) (c.args.y + c.loop-j.j) t r) kept given)
+    let kept = row_kept (g.E.RowEditor.gives c.args.editor.now) c.args.x c.args.y c.args.w c.loop-j.j (c.loop-j.j * (c.args.w * 3)) _ k c.args.values.now c.loop-j.values c.loop-j.invariant refl (omega arith) below in
+    c.requires.gives c.loop-j.j k r c.loop-j-test.true below (subst (λ t. g.E.RowEditor.gives c.args.editor.now (c.args.x + k) (c.args.y + c.loop-j.j) t r) kept given)

@@ -19,7 +19,7 @@ returns-in-Rgb g c =
     let first = c.requires.asks 0 (omega arith) in
     let makes = g.M.ChannelMap.makes c.args.self.now.map.now in
     record {
-      row = mapped_row p makes c.args.x c.args.y c.args.n c.row-from.result.now c.map_rgb.new.row (record { values = c.row-from.ensures.values; top = c.row-from.ensures.top }) (omega (arith, first.0.left))
-          (made_of_rgb p makes c.args.x c.args.y c.args.n c.row-from.result.now c.map_rgb.new.row (sym c.kind.ensures ∙ c.in-Rgb.is) c.row-from.ensures.len (c.map_rgb.auto.row ∙ (c.requires.len ∙ sym c.row-from.ensures.len))
-          c.map_rgb.ensures.values c.map_rgb.ensures.top);
+      row = mapped_row p makes c.args.x c.args.y c.args.n c.row-from.result.now c.change_threes.new.row (record { values = c.row-from.ensures.values; top = c.row-from.ensures.top }) (omega (arith, first.0.left))
+          (made_of_rgb p makes c.args.x c.args.y c.args.n c.row-from.result.now c.change_threes.new.row (sym c.kind.ensures ∙ c.in-Rgb.is) c.row-from.ensures.len (c.change_threes.auto.row ∙ (c.requires.len ∙ sym c.row-from.ensures.len))
+          c.change_threes.ensures.values c.change_threes.ensures.top);
     }
