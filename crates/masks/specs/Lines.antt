@@ -47,6 +47,7 @@ pub record IsEdge (e : Edge) : Type 0 where
   pub feather : e.feather ≤ 65536
   pub rim_some : 0 < e.rim
   pub rim : e.rim ≤ 2 ^ 85
+  pub shift : e.guess.shift < 128
 
 -- how far an ellipse covers pixel k of the line
 abbrev pub ellipse_at : Line → Edge → ℕ → ℕ

@@ -9,6 +9,7 @@ ghost use Rattle.masks.specs.Coverage.{coverage_at, IsCovering};
 use crate::edge::{Edge, fill_ellipse};
 use crate::ellipse::rim;
 use crate::gradient::fill_gradient;
+use crate::guess::guess_of;
 use crate::lines::{Anchor, line_of};
 use params::Shape;
 use px::{Cover, Region, RowPainter, Trace, paint_cover};
@@ -61,11 +62,13 @@ fn fill_shape(shape: &Shape, trace: &Trace, w: u32, h: u32, x: u32, y: u32, n: u
                 dx: ux,
                 dy: uy,
             };
+            let rim = rim(ux, uy, a, b);
             let edge = Edge {
                 a,
                 b,
                 feather,
-                rim: rim(ux, uy, a, b),
+                rim,
+                guess: guess_of(rim),
             };
             fill_ellipse(line_of(trace, anchor, x, y), edge, n, row);
         }

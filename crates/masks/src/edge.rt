@@ -3,16 +3,19 @@ ghost use Rattle.std.specs.Prelude.{◌≡◌, ℕ, ◌+◌, ◌*◌, ◌<◌, �
 ghost use Rattle.masks.specs.Lines.{far_at, ellipse_at, IsEdge, IsFilled, IsFilledFrom, IsSmallLine};
 
 use crate::ellipse::{cover_of, far_out};
+use crate::guess::Guess;
 use crate::lines::Line;
 use px::FULL_COVER;
 
-/// An ellipse's half axes and feather, and how far out the ellipse itself is.
+/// An ellipse's half axes and feather, how far out the ellipse itself is, and what quotients by that are
+/// guessed by.
 #[derive(Clone, Copy)]
 pub(crate) struct Edge {
     pub(crate) a: u32,
     pub(crate) b: u32,
     pub(crate) feather: u32,
     pub(crate) rim: u128,
+    pub(crate) guess: Guess,
 }
 
 // How many pixels of a line are looked at together.
@@ -103,7 +106,7 @@ fn fill_each(line: Line, edge: Edge, from: u32, to: u32, row: &mut [u32])
     ensures { IsFilledFrom (ellipse_at line edge) from to row.old row.new }
 {
     for k in from..to {
-        row[k as usize] = cover_of(edge.feather, far_at(line, edge, k), edge.rim);
+        row[k as usize] = cover_of(edge.feather, far_at(line, edge, k), edge.rim, edge.guess);
     }
 }
 

@@ -3,6 +3,7 @@ ghost use Rattle.std.specs.Prelude.{◌≡◌, ◌+◌, ◌*◌, ◌/◌, ◌^�
 ghost use Rattle.masks.specs.Coverage.{faded, far_out, rim, squared};
 ghost use Rattle.masks.specs.Ranges.{IsDirection};
 
+use crate::guess::{Guess, quotient};
 use px::FULL_COVER;
 
 // A square of a distance.
@@ -79,17 +80,18 @@ fn faded(feather: u32, e: u32) -> u32
     ensures value { result ≡ faded feather e }
     ensures top { result ≤ 65536 }
 {
-    (u64::from(FULL_COVER) * u64::from(FULL_COVER + feather - e) / u64::from(feather)) as u32
+    FULL_COVER * (FULL_COVER + feather - e) / feather
 }
 
 /// How far an ellipse covers a pixel: by `e = floor(65536 * far / rim)`, which is worked out in the
 /// feather alone.
-pub(crate) fn cover_of(feather: u32, far: u128, rim: u128) -> u32
+pub(crate) fn cover_of(feather: u32, far: u128, rim: u128, guess: Guess) -> u32
     requires some { 0 < feather }
     requires feather { feather ≤ 65536 }
     requires far { far ≤ 2 ^ 103 }
     requires rim { rim ≤ 2 ^ 85 }
     requires rim_some { 0 < rim }
+    requires shift { guess.shift < 128 }
     ensures value { result ≡ faded feather (65536 * far / rim) }
     ensures top { result ≤ 65536 }
 {
@@ -100,5 +102,5 @@ pub(crate) fn cover_of(feather: u32, far: u128, rim: u128) -> u32
     if scaled >= rim * u128::from(FULL_COVER + feather) {
         return 0;
     }
-    faded(feather, (scaled / rim) as u32)
+    faded(feather, quotient(guess, scaled, rim))
 }

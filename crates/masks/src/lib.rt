@@ -8,6 +8,7 @@ mod covering;
 mod edge;
 mod ellipse;
 mod gradient;
+mod guess;
 mod lines;
 mod places;
 
