@@ -8,12 +8,22 @@ ghost use Rattle.develop_session.specs.Texts.{code_of};
 
 use develop_session::{Status, run_words};
 use outside::{HostSaid, HostShelf, OpenGate, Said};
+use std::alloc::Global;
 use std::io::ErrorKind;
 use std::process::ExitCode;
 use std::rt::{Env, Files};
 use std::sync::Wait;
 use std::thread::Threads;
 use std::{env, io};
+
+// The largest block that the C library keeps for later ones once it was given back, some 32 MB: a page less for its head.
+const KEPT_BLOCK: usize = 32 * 1024 * 1024 - 8192;
+
+// Takes a block and gives it back at once, without touching it. From then on the C library keeps blocks of up to that size for
+// the next ones, where it would hand each one back to the system and ask for fresh pages: planes come and go all the time.
+fn keep_blocks(alloc: Global) {
+    let _ = Vec::<u8>::with_capacity(alloc, KEPT_BLOCK);
+}
 
 // The words after the program's name.
 fn words<R: Env + AllocGlobal>(rt: &R) -> io::Result<Vec<String>> {
@@ -69,6 +79,7 @@ fn exit_code(status: &Status) -> ExitCode
 }
 
 fn main(rt: HostRuntime) -> io::Result<ExitCode> {
+    keep_blocks(rt.alloc());
     let mut said = HostSaid::new(rt.stdout());
     let status = run(&rt, &mut said)?;
     Ok(exit_code(&status))
