@@ -1,4 +1,4 @@
-use geometry::{Geometry, roi_back, roi_out};
+use geometry::{Geometry, roi_back};
 use params::{Crop, Orientation, Params};
 use px::Region;
 use std::test::Fail;
@@ -30,22 +30,6 @@ fn a_pixel_is_traced_back_through_crop_and_orientation(rt: HostRuntime) {
     assert!(rt; level.out_size() == (2, 4));
     assert!(rt; level.place(0, 0) == (3, 1));
     assert!(rt; level.trace().level == 1);
-}
-
-// 65,535 * 3 / 65,536 is 2, and so is the end, so that one column stays: the third.
-#[test]
-fn a_crop_keeps_one_pixel_at_least(rt: HostRuntime) {
-    let crop = Params::Crop(Crop {
-        left: 65_535,
-        top: 0,
-        right: 65_536,
-        bottom: 65_536,
-    });
-    assert!(rt; roi_out(&crop, 3, 1) == (1, 1));
-    let mut kept = Geometry::start(3, 1, 0);
-    kept.push(&crop);
-    assert!(rt; kept.out_size() == (1, 1));
-    assert!(rt; kept.place(0, 0) == (2, 0));
 }
 
 // Turned as above, output (0,0) comes from column 7 and row 0. Demosaic needs one more on each side, as

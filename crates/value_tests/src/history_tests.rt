@@ -156,5 +156,6 @@ fn a_deleted_instance_takes_its_items_along(rt: HostRuntime) -> Result<(), Fail>
         instance: 1,
     };
     assert_eq!(rt; history.order().place(added), Some(3));
+    assert!(rt; history.allowed(&Edit::Set(exposure(1, 65_537))).is_err());
     Ok(())
 }

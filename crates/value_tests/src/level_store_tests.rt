@@ -1,17 +1,6 @@
+use crate::pictures::ramp;
 use level_store::{Hold, LevelStore, ReachAnswer};
-use modules_raw::Source;
-use px::{Cfa, Plane, PlaneKind, Region};
-use std::alloc::{AllocError, Global};
-use std::sync::Arc;
 use std::test::Fail;
-
-// The mosaic of 5 columns and 3 rows with the value 10 * row + column.
-fn ramp(alloc: Global) -> Result<Arc<Source>, AllocError> {
-    let values = vec![in alloc; 0, 1, 2, 3, 4, 10, 11, 12, 13, 14, 20, 21, 22, 23, 24]?;
-    let kind = PlaneKind::Mosaic(Cfa::Rggb);
-    let plane = Plane::from_rows(kind, 5, 3, Region::whole(5, 3), values);
-    Ok(Arc::new(alloc, Source::of(plane))?)
-}
 
 // Level 2 has two pixels: the first block has 4 columns, and the last column takes in the one before it.
 #[test]

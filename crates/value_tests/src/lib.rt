@@ -3,37 +3,23 @@
 #![tactic(auto)]
 
 #[cfg(test)]
-mod blend_tests;
-#[cfg(test)]
-mod curve_tests;
-#[cfg(test)]
 mod geometry_tests;
 #[cfg(test)]
 mod history_tests;
 #[cfg(test)]
+mod kernel_tests;
+#[cfg(test)]
 mod level_store_tests;
-#[cfg(test)]
-mod local_modules_tests;
-#[cfg(test)]
-mod masks_tests;
 #[cfg(test)]
 mod mip_cache_tests;
 #[cfg(test)]
-mod mixer_tests;
-#[cfg(test)]
 mod module_order_tests;
-#[cfg(test)]
-mod modules_colour_tests;
-#[cfg(test)]
-mod modules_geometry_tests;
-#[cfg(test)]
-mod modules_raw_tests;
 #[cfg(test)]
 mod outside_tests;
 #[cfg(test)]
 mod params_tests;
 #[cfg(test)]
-mod pnm_tests;
+mod pictures;
 #[cfg(test)]
 mod px_tests;
 #[cfg(test)]

@@ -1,77 +1,10 @@
-use outside::{
-    Failed, HostSaid, HostShelf, MemorySaid, MemoryShelf, Name, Said, Shelf, read_front,
-};
+use outside::{Failed, HostSaid, HostShelf, Name, Said, Shelf, read_front};
 use std::fs;
 use std::fs::{File, OpenOptions, Permissions};
 use std::os::unix::fs::{PermissionsExt, symlink};
 use std::test::Fail;
 
 const TEN: &[u8] = b"0123456789";
-
-#[test]
-fn a_front_is_the_same_in_any_chunks(rt: HostRuntime) -> Result<(), Fail> {
-    let alloc = rt.alloc();
-    for chunk in [1, 7, 4096] {
-        let mut shelf = MemoryShelf::new(alloc, chunk, Vec::new(alloc), Vec::new(alloc));
-        shelf.place("a", TEN)?;
-        for limit in [1, 9, 10, 11] {
-            let front = read_front(alloc, &mut shelf, "a", limit)?;
-            assert_eq!(rt;
-                front.as_slice(),
-                &TEN[..limit.min(10)],
-                "up to {limit} by {chunk}"
-            );
-        }
-    }
-    Ok(())
-}
-
-#[test]
-fn chosen_calls_of_a_shelf_fail(rt: HostRuntime) -> Result<(), Fail> {
-    let alloc = rt.alloc();
-    let mut shelf = MemoryShelf::new(alloc, 4, vec![in alloc; 2, 3]?, vec![in alloc; 2]?);
-    let puts = [
-        (b"old".as_slice(), Ok(()), b"old".as_slice()),
-        (b"new".as_slice(), Err(Failed::Fault), b"old".as_slice()),
-        (TEN, Ok(()), TEN),
-    ];
-    for (bytes, answer, held) in puts {
-        assert!(rt; shelf.put("a", bytes) == answer);
-        assert!(rt; shelf.get("a") == Some(held));
-    }
-    let reads = [
-        ("a", 0, Ok(4)),
-        ("a", 4, Err(Failed::Fault)),
-        ("a", 4, Err(Failed::Fault)),
-        ("a", 8, Ok(2)),
-        ("a", 10, Ok(0)),
-        ("b", 0, Err(Failed::Fault)),
-    ];
-    let mut buf = [0; 6];
-    for (name, at, answer) in reads {
-        assert!(rt;
-            shelf.read_at(name, at, &mut buf) == answer,
-            "{name} at {at}"
-        );
-    }
-    assert_eq!(rt; buf, *b"8923\0\0");
-    Ok(())
-}
-
-#[test]
-fn chosen_says_fail(rt: HostRuntime) -> Result<(), Fail> {
-    let alloc = rt.alloc();
-    let mut said = MemorySaid::new(alloc, vec![in alloc; 2]?);
-    for (text, answer) in [
-        ("one ", Ok(())),
-        ("two ", Err(Failed::Fault)),
-        ("three", Ok(())),
-    ] {
-        assert!(rt; said.say(text.as_bytes()) == answer);
-    }
-    assert_eq!(rt; said.bytes(), b"one three".as_slice());
-    Ok(())
-}
 
 #[test]
 fn a_name_is_its_text(rt: HostRuntime) -> Result<(), Fail> {

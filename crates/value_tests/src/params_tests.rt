@@ -1,7 +1,4 @@
-use params::{
-    Blend, Module, Nodes20, OldParams, Params, ToneCurve, blend_of_json, blend_to_json, check_old,
-    migrate, of_json, to_json,
-};
+use params::{Blend, Module, Params, blend_of_json, blend_to_json, of_json, to_json};
 use serde_json::Value;
 use std::test::Fail;
 
@@ -49,7 +46,7 @@ fn settings_are_read_and_written_again(rt: HostRuntime) -> Result<(), Fail> {
             &Value::from_str(alloc, text)?,
         )?;
         let written = to_json(alloc, &params)?.to_string(alloc)?;
-        assert_eq!(rt; written.as_str(), text);
+        assert!(rt; written.as_str() == text);
     }
     Ok(())
 }
@@ -67,31 +64,7 @@ fn blends_are_read_and_written_again(rt: HostRuntime) -> Result<(), Fail> {
     for text in BLENDS {
         let blend = blend_of_json(&Value::from_str(alloc, text)?)?;
         let written = blend_to_json(alloc, blend.as_ref())?.to_string(alloc)?;
-        assert_eq!(rt; written.as_str(), text);
+        assert!(rt; written.as_str() == text);
     }
-    Ok(())
-}
-
-// A curve of version 1 stands for each channel.
-#[test]
-fn an_old_curve_stands_for_each_channel(rt: HostRuntime) -> Result<(), Fail> {
-    let nodes = Nodes20::of(&[(0, 5), (9, 7)]).ok_or("too many nodes")?;
-    let old = OldParams::ToneCurve1 { nodes };
-    let curve = ToneCurve {
-        red: nodes,
-        green: nodes,
-        blue: nodes,
-    };
-    assert!(rt; check_old(&old).is_ok());
-    assert!(rt; migrate(&old) == Params::ToneCurve(curve));
-    Ok(())
-}
-
-#[test]
-fn a_curve_has_at_most_20_nodes(rt: HostRuntime) -> Result<(), Fail> {
-    let nodes = [(7, 7); 21];
-    assert!(rt; Nodes20::of(&nodes).is_none());
-    let most = Nodes20::of(&nodes[..20]).ok_or("too many nodes")?;
-    assert_eq!(rt; most.as_slice(), &nodes[..20]);
     Ok(())
 }

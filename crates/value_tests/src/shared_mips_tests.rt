@@ -5,23 +5,16 @@ ghost use Rattle.turn_lock.specs.Known.{IsIdle};
 ghost use Rattle.shared_mips.specs.Cells.{spot};
 ghost use Rattle.shared_mips.specs.Story.{hold_of};
 
+use crate::pictures::ramp;
 use level_store::ReachAnswer;
 use modules_raw::{Source, level, level_sides};
-use px::{Cfa, Plane, PlaneKind, Region};
+use px::{Plane, Region};
 use shared_mips::{MipCache, MipPass, ReadHold, SharedReached, WriteHold};
-use std::alloc::{AllocError, Global};
+use std::alloc::Global;
 use std::process::Abort;
 use std::sync::{Arc, Wait};
 use std::test::Fail;
 use std::thread::Threads;
-
-// The mosaic of 5 columns and 3 rows with the value 10 * row + column.
-fn ramp(alloc: Global) -> Result<Arc<Source>, AllocError> {
-    let values = vec![in alloc; 0, 1, 2, 3, 4, 10, 11, 12, 13, 14, 20, 21, 22, 23, 24]?;
-    let kind = PlaneKind::Mosaic(Cfa::Rggb);
-    let plane = Plane::from_rows(kind, 5, 3, Region::whole(5, 3), values);
-    Ok(Arc::new(alloc, Source::of(plane))?)
-}
 
 // Reaches for a level that this pass is to write.
 fn write_hold<'a, R: Abort + Wait>(
@@ -112,30 +105,94 @@ fn whole_of(alloc: Global, cache: &MipCache, source: &Source, hold: &ReadHold<'_
     cache.read(alloc, hold, region).ok()
 }
 
-// Level 2 has two pixels: the first block has 4 columns, and the last column takes in the one before it.
+// The first pass writes level 2. Meanwhile the second is refused it, as well as another, and no slot is given up.
+fn write_alone<'a, R: Abort + Wait + Threads + Sync>(
+    rt: &R,
+    alloc: Global,
+    cache: &'a MipCache,
+    source: &Source,
+    first: &mut MipPass,
+    second: &mut MipPass,
+) -> ReadHold<'a>
+    requires source { source.now ≡ cache.now.name.source }
+    requires first { IsIdle cache.now first.old }
+    requires first_bare { hold_of first.old.own ≡ None }
+    requires second { IsIdle cache.now second.old }
+    requires second_bare { hold_of second.old.own ≡ None }
+    ensures first { IsIdle cache.now first.new }
+    ensures held { hold_of first.new.own ≡ Some (Reads 2) }
+    ensures hold { result ≡ spot cache.now.name.source 2 }
+    ensures second { IsIdle cache.now second.new }
+    ensures second_bare { hold_of second.new.own ≡ None }
+{
+    let hold = write_hold(rt, cache, first, 2);
+    let pending = refusal(rt, cache, second, 2);
+    assert!(rt; pending == ReachAnswer::Pending { writer: 1 });
+    let full = refusal(rt, cache, second, 3);
+    assert!(rt; full == ReachAnswer::Full);
+    assert!(rt; cache.evict_one(rt, second).ok() == Some(None));
+    made(rt, alloc, cache, source, first, hold)
+}
+
+// The second pass reads level 2 beside the first, and then both leave it. It has two pixels: the first block
+// has 4 columns, and the last column takes in the one before it.
+fn read_together<'a, R: Abort + Wait>(
+    rt: &R,
+    alloc: Global,
+    cache: &'a MipCache,
+    source: &Source,
+    first: &mut MipPass,
+    mine: ReadHold<'a>,
+    second: &mut MipPass,
+)
+    requires source { source.now ≡ cache.now.name.source }
+    requires first { IsIdle cache.now first.old }
+    requires held { hold_of first.old.own ≡ Some (Reads 2) }
+    requires hold { mine ≡ spot cache.now.name.source 2 }
+    requires second { IsIdle cache.now second.old }
+    requires second_bare { hold_of second.old.own ≡ None }
+    ensures first { IsIdle cache.now first.new }
+    ensures first_bare { hold_of first.new.own ≡ None }
+    ensures second { IsIdle cache.now second.new }
+    ensures second_bare { hold_of second.new.own ≡ None }
+{
+    let theirs = read_hold(rt, cache, second, 2);
+    let plane = whole_of(alloc, cache, source, &theirs).expect(rt, "a plane");
+    assert!(rt; plane.values() == [11, 11, 12, 14, 13, 13].as_slice());
+    cache.leave(rt, first, mine);
+    cache.leave(rt, second, theirs);
+}
+
+// The pass is to write the level, and gives it up.
+fn give_up<R: Abort + Wait>(rt: &R, cache: &MipCache, pass: &mut MipPass, level: u8)
+    requires lock { IsIdle cache.now pass.old }
+    requires level { IsLevel level }
+    requires bare { hold_of pass.old.own ≡ None }
+    ensures lock { IsIdle cache.now pass.new }
+    ensures bare { hold_of pass.new.own ≡ None }
+{
+    let hold = write_hold(rt, cache, pass, level);
+    cache.abandon(rt, pass, hold);
+}
+
 #[test]
 fn one_slot_has_one_writer_or_readers_among_passes(rt: HostRuntime) -> Result<(), Fail> {
     let source = ramp(rt.alloc())?;
     let (cache, mut passes) = MipCache::new(rt.alloc(), Arc::try_clone(&source)?, 1, 3)?;
     let mut second = passes.pop().ok_or("three passes")?;
     let mut first = passes.pop().ok_or("three passes")?;
-    let hold = write_hold(&rt, &cache, &mut first, 2);
-    assert_eq!(rt;
-        refusal(&rt, &cache, &mut second, 2),
-        ReachAnswer::Pending { writer: 1 }
+    let mine = write_alone(&rt, rt.alloc(), &cache, &source, &mut first, &mut second);
+    read_together(
+        &rt,
+        rt.alloc(),
+        &cache,
+        &source,
+        &mut first,
+        mine,
+        &mut second,
     );
-    assert_eq!(rt; refusal(&rt, &cache, &mut second, 3), ReachAnswer::Full);
-    assert_eq!(rt; cache.evict_one(&rt, &mut second).ok(), Some(None));
-    let mine = made(&rt, rt.alloc(), &cache, &source, &mut first, hold);
-    let theirs = read_hold(&rt, &cache, &mut second, 2);
-    let plane = whole_of(rt.alloc(), &cache, &source, &theirs).expect(&rt, "a plane");
-    assert_eq!(rt; plane.values(), [11, 11, 12, 14, 13, 13].as_slice());
-    cache.leave(&rt, &mut first, mine);
-    cache.leave(&rt, &mut second, theirs);
-    assert_eq!(rt; cache.evict_one(&rt, &mut second)?, Some(2));
-    let hold = write_hold(&rt, &cache, &mut second, 3);
-    cache.abandon(&rt, &mut second, hold);
-    let hold = write_hold(&rt, &cache, &mut first, 2);
-    cache.abandon(&rt, &mut first, hold);
+    assert!(rt; cache.evict_one(&rt, &mut second)? == Some(2));
+    give_up(&rt, &cache, &mut second, 3);
+    give_up(&rt, &cache, &mut first, 2);
     Ok(())
 }
