@@ -7,6 +7,10 @@ mod desk_tests;
 #[cfg(test)]
 mod dev_core_tests;
 #[cfg(test)]
+mod piece_tests;
+#[cfg(test)]
+mod pieces;
+#[cfg(test)]
 mod shared_stage_tests;
 #[cfg(test)]
 mod stage_cache_tests;

@@ -1,38 +1,19 @@
-ghost use Rattle.std.specs.Prelude.{◌≡◌, ◌<◌, IfOk, None, replicate};
-ghost use Rattle.params.specs.declared.settings.Params.TheVariants.{Exposure as exposure_params};
+ghost use Rattle.std.specs.Prelude.{◌≡◌, IfOk, replicate};
 ghost use Rattle.px.specs.declared.kind.PlaneKind.TheVariants.{Rgb};
 ghost use Rattle.px.specs.Area.{whole_of};
-ghost use Rattle.pipe_nodes.specs.Active.{IsFit};
 
+use crate::pieces::{DOUBLING, active_of, committed};
 use modules_raw::Source;
-use params::{Exposure, Params};
-use pipe_nodes::{Active, Piece, Prefix, Staged, Steps, commit};
+use pipe_nodes::{Prefix, Staged};
 use px::{Plane, PlaneKind, Region};
 use stage_cache::{Kept, StageCache};
 use std::alloc::{AllocError, Global};
 use std::marker::Brand;
 use std::process::Abort;
 use std::sync::Arc;
-use std::sync::ledger::{Blank, Ledger};
+use std::sync::ledger::Blank;
 use std::test::Fail;
 use std::thread::Threads;
-
-// Takes 1000 away and doubles.
-const DOUBLING: Exposure = Exposure {
-    black: 1000,
-    gain: 8192,
-    stops: 0,
-};
-
-fn active_of(instance: u8, exposure: Exposure) -> Active
-    ensures { result ≡ record { instance = instance; params = exposure_params exposure; blend = None } }
-{
-    Active {
-        instance,
-        params: Params::Exposure(exposure),
-        blend: None,
-    }
-}
 
 // A row of eleven black pixels.
 #[tactic(auto, using(crate::proofs::RowLemmas::zeros))]
@@ -41,18 +22,6 @@ pub(crate) fn row(alloc: Global) -> Result<Plane, AllocError>
 {
     let values = vec![in alloc; 0; 33]?;
     Ok(Plane::from_rows(PlaneKind::Rgb, 11, 1, Region::whole(11, 1), values))
-}
-
-// Commits in a ledger of its own.
-fn committed<L: Ledger>(alloc: Global, active: &Active, blank: Blank) -> Result<Piece, AllocError>
-    requires fit { IsFit active.now }
-    requires name { blank.name ≡ L.name }
-    requires parts { blank.parts ≡ L.parts }
-    requires some { 0 < blank.parts }
-    ensures { IfOk result (λ p. p ≡ active.now) }
-{
-    let mut steps = Steps::<L>::start(blank);
-    commit(alloc, active, &mut steps)
 }
 
 // The first pixels of the row behind one exposure, of this instance.

@@ -1,4 +1,4 @@
-//! The tests of scripts and of the pieces of a pixelpipe: what no clause of their crates says, by
+//! The tests of scripts and of the runs of a pixelpipe: what no clause of their crates says, by
 //! public calls. A crate without tests of its own is proved once.
 #![tactic(auto)]
 
@@ -8,8 +8,6 @@ mod band_tests;
 mod edit_script_tests;
 #[cfg(test)]
 mod edit_steps_tests;
-#[cfg(test)]
-mod piece_tests;
 #[cfg(test)]
 mod pipe_nodes_tests;
 #[cfg(test)]

@@ -5,12 +5,12 @@ use session::run_desk;
 use std::test::Fail;
 
 // A settle around each of three exposures.
-const SETTLES: &[u8] =
-    b"{\"settings\":{\"workers\":1},\"steps\":[{\"do\":\"settle\"},{\"do\":\"set\",\"module\":\"exposure\",\"params\":{\"black\":0,\"gain\":8192}},{\"do\":\"settle\"},{\"do\":\"set\",\"module\":\"exposure\",\"params\":{\"black\":0,\"gain\":2048}},{\"do\":\"settle\"},{\"do\":\"set\",\"module\":\"exposure\",\"params\":{\"black\":0,\"gain\":1024}},{\"do\":\"settle\"}]}";
+const SETTLES: &str =
+    r#"{"settings":{"workers":1},"steps":[{"do":"settle"},{"do":"set","module":"exposure","params":{"black":0,"gain":8192}},{"do":"settle"},{"do":"set","module":"exposure","params":{"black":0,"gain":2048}},{"do":"settle"},{"do":"set","module":"exposure","params":{"black":0,"gain":1024}},{"do":"settle"}]}"#;
 
 // A settle around one exposure, with nothing kept of stages.
-const LEVELS: &[u8] =
-    b"{\"settings\":{\"workers\":1,\"stage_pixels\":0},\"steps\":[{\"do\":\"settle\"},{\"do\":\"set\",\"module\":\"exposure\",\"params\":{\"black\":0,\"gain\":8192}},{\"do\":\"settle\"}]}";
+const LEVELS: &str =
+    r#"{"settings":{"workers":1,"stage_pixels":0},"steps":[{"do":"settle"},{"do":"set","module":"exposure","params":{"black":0,"gain":8192}},{"do":"settle"}]}"#;
 
 #[test]
 fn a_stage_that_was_kept_is_not_made_again(rt: HostRuntime) -> Result<(), Fail> {

@@ -6,12 +6,12 @@ use session::run_desk;
 use std::test::Fail;
 
 // A settle, an exposure, a settle, a view, a settle.
-const VIEW: &[u8] =
-    b"{\"steps\":[{\"do\":\"settle\"},{\"do\":\"set\",\"module\":\"exposure\",\"params\":{\"black\":0,\"gain\":8192}},{\"do\":\"settle\"},{\"do\":\"view\",\"factor\":2,\"cx\":32768,\"cy\":32768,\"w\":4,\"h\":4}]}";
+const VIEW: &str =
+    r#"{"steps":[{"do":"settle"},{"do":"set","module":"exposure","params":{"black":0,"gain":8192}},{"do":"settle"},{"do":"view","factor":2,"cx":32768,"cy":32768,"w":4,"h":4}]}"#;
 
 // Two exposures, an export, and five more.
-const EXPORT: &[u8] =
-    b"{\"steps\":[{\"do\":\"set\",\"module\":\"exposure\",\"params\":{\"black\":0,\"gain\":8192}},{\"do\":\"set\",\"module\":\"exposure\",\"params\":{\"black\":0,\"gain\":2048}},{\"do\":\"export\",\"depth\":8},{\"do\":\"set\",\"module\":\"exposure\",\"params\":{\"black\":0,\"gain\":1024}},{\"do\":\"set\",\"module\":\"exposure\",\"params\":{\"black\":0,\"gain\":512}},{\"do\":\"set\",\"module\":\"exposure\",\"params\":{\"black\":0,\"gain\":256}},{\"do\":\"set\",\"module\":\"exposure\",\"params\":{\"black\":0,\"gain\":128}},{\"do\":\"set\",\"module\":\"exposure\",\"params\":{\"black\":0,\"gain\":64}}]}";
+const EXPORT: &str =
+    r#"{"steps":[{"do":"set","module":"exposure","params":{"black":0,"gain":8192}},{"do":"set","module":"exposure","params":{"black":0,"gain":2048}},{"do":"export","depth":8},{"do":"set","module":"exposure","params":{"black":0,"gain":1024}},{"do":"set","module":"exposure","params":{"black":0,"gain":512}},{"do":"set","module":"exposure","params":{"black":0,"gain":256}},{"do":"set","module":"exposure","params":{"black":0,"gain":128}},{"do":"set","module":"exposure","params":{"black":0,"gain":64}}]}"#;
 
 // Whether the first ticket's picture is of this moment and has these bytes.
 fn is_ticket(desk: &DeskState, moment: u32, bytes: &[u8]) -> bool {

@@ -5,8 +5,8 @@ use outside::Pipe;
 use session::run_desk;
 use std::test::Fail;
 
-const SCRIPT: &[u8] =
-    b"{\"settings\":{\"workers\":2,\"stage_pixels\":0},\"steps\":[{\"do\":\"set\",\"module\":\"exposure\",\"params\":{\"black\":0,\"gain\":8192}},{\"do\":\"set\",\"module\":\"exposure\",\"params\":{\"black\":0,\"gain\":2048}}]}";
+const SCRIPT: &str =
+    r#"{"settings":{"workers":2,"stage_pixels":0},"steps":[{"do":"set","module":"exposure","params":{"black":0,"gain":8192}},{"do":"set","module":"exposure","params":{"black":0,"gain":2048}}]}"#;
 
 #[test]
 fn a_run_that_a_change_overtakes_is_not_published(rt: HostRuntime) -> Result<(), Fail> {

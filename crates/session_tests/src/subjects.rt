@@ -10,8 +10,8 @@ use std::test::Fail;
 /// A picture of one pixel, of the samples 20, 20 and 20 in hexadecimal.
 pub(crate) const PIXEL: &[u8] = b"P6\n1 1\n255\n\x20\x20\x20";
 
-pub(crate) fn subject(alloc: Global, script: &[u8], picture: &[u8]) -> Result<Arc<Subject>, Fail> {
-    let Ok(script) = edit_script::read(alloc, script) else {
+pub(crate) fn subject(alloc: Global, script: &str, picture: &[u8]) -> Result<Arc<Subject>, Fail> {
+    let Ok(script) = edit_script::read(alloc, script.as_bytes()) else {
         return Err(Fail::from("a script"));
     };
     let Ok(plane) = pnm::read(alloc, picture, None) else {

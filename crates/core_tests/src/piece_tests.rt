@@ -1,54 +1,24 @@
-ghost use Rattle.std.specs.Prelude.{◌≡◌, ◌∷◌, [], ◌<◌, IfOk, None};
-ghost use Rattle.params.specs.declared.settings.Params.TheVariants.{Exposure as exposure_params};
+ghost use Rattle.std.specs.Prelude.{◌≡◌, ◌∷◌, [], IfOk};
 ghost use Rattle.px.specs.declared.kind.PlaneKind.TheVariants.{Rgb};
 ghost use Rattle.px.specs.Area.{whole_of};
-ghost use Rattle.pipe_nodes.specs.Active.{IsFit};
 
+use crate::pieces::{DOUBLING, active_of, committed};
 use modules_raw::Source;
-use params::{Exposure, Params};
-use pipe_nodes::{Active, Piece, Prefix, Staged, Steps, commit};
+use params::Exposure;
+use pipe_nodes::{Prefix, Staged};
 use px::{Plane, PlaneKind, Region};
 use std::alloc::{AllocError, Global};
 use std::marker::Brand;
 use std::sync::Arc;
-use std::sync::ledger::{Blank, Ledger};
+use std::sync::ledger::Blank;
 use std::test::Fail;
 use std::thread::Threads;
-
-// Takes 1000 away and doubles.
-const DOUBLING: Exposure = Exposure {
-    black: 1000,
-    gain: 8192,
-    stops: 0,
-};
-
-fn active_of(exposure: Exposure) -> Active
-    ensures { result ≡ record { instance = 0; params = exposure_params exposure; blend = None } }
-{
-    Active {
-        instance: 0,
-        params: Params::Exposure(exposure),
-        blend: None,
-    }
-}
 
 fn two_pixels(alloc: Global) -> Result<Plane, AllocError>
     ensures { IfOk result (λ p. p ≡ record { kind = Rgb; w = 2; h = 1; area = whole_of 2 1; values = 0 ∷ 1 ∷ 2 ∷ 1500 ∷ 2000 ∷ 600000 ∷ [] }) }
 {
     let values = vec![in alloc; 0, 1, 2, 1500, 2000, 600_000]?;
     Ok(Plane::from_rows(PlaneKind::Rgb, 2, 1, Region::whole(2, 1), values))
-}
-
-// Commits in a ledger of its own.
-fn committed<L: Ledger>(alloc: Global, active: &Active, blank: Blank) -> Result<Piece, AllocError>
-    requires fit { IsFit active.now }
-    requires name { blank.name ≡ L.name }
-    requires parts { blank.parts ≡ L.parts }
-    requires some { 0 < blank.parts }
-    ensures { IfOk result (λ p. p ≡ active.now) }
-{
-    let mut steps = Steps::<L>::start(blank);
-    commit(alloc, active, &mut steps)
 }
 
 // That values of the type may be shared between threads.
@@ -60,7 +30,7 @@ fn second_pixel<R: Threads + Sync>(
     alloc: Global,
     exposure: Exposure,
 ) -> Result<Option<Plane>, AllocError> {
-    let active = active_of(exposure);
+    let active = active_of(0, exposure);
     let Some(region) = Region::new(1, 0, 1, 1) else {
         return Ok(None);
     };
@@ -88,7 +58,7 @@ fn a_piece_renders_a_region_of_its_output(rt: HostRuntime) -> Result<(), Fail> {
 #[test]
 fn a_shared_prefix_is_equal_and_a_longer_one_is_not(rt: HostRuntime) -> Result<(), Fail> {
     let alloc = rt.alloc();
-    let active = active_of(DOUBLING);
+    let active = active_of(0, DOUBLING);
     if !active.is_fit() {
         return Ok(());
     }
