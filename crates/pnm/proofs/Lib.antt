@@ -8,3 +8,4 @@ pub mod WordLemmas
 pub mod WrittenLemmas
 pub mod FrontLemmas
 pub mod ByteLemmas
+pub mod RasterLemmas

@@ -81,7 +81,7 @@ picture_from_header bytes cfa kind w h samples top raster values header made =
           (value_of_whole kind w h samples top x y c raster values made column row below);
     }
 
-same_meaning : (kind kind' : PlaneKind) (top top' samples samples' w w' x y c : ℕ) (raster raster' : List ℕ) → kind ≡ kind' → top ≡ top' → samples ≡ samples' → w ≡ w' → raster ≡ raster'
+pub same_meaning : (kind kind' : PlaneKind) (top top' samples samples' w w' x y c : ℕ) (raster raster' : List ℕ) → kind ≡ kind' → top ≡ top' → samples ≡ samples' → w ≡ w' → raster ≡ raster'
     → meaning kind top (sample_at top raster ((y * w + x) * samples + min c (samples - 1))) ≡ meaning kind' top' (sample_at top' raster' ((y * w' + x) * samples' + min c (samples' - 1)))
 same_meaning kind kind' top top' samples samples' w w' x y c raster raster' k t s v r = rw (k, t, s, v, r) refl
 

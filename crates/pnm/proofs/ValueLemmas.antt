@@ -44,7 +44,7 @@ pub meaning_top : (kind : PlaneKind) (top s : ℕ) → 0 < top → top ≤ 65535
 meaning_top (Mosaic cfa) top s some small = omega arith
 meaning_top Rgb top s some small = scaled_top top s some
 
-channels_some : (kind : PlaneKind) → 0 < channels kind
+pub channels_some : (kind : PlaneKind) → 0 < channels kind
 channels_some (Mosaic cfa) = omega arith
 channels_some Rgb = omega arith
 

@@ -1,9 +1,9 @@
 //! The values that a raster's samples mean.
-ghost use Rattle.std.specs.Prelude.{◌≡◌, ℕ, ◌+◌, ◌*◌, ◌<◌, ◌≤◌, length, slice_index, min, IfOk};
+ghost use Rattle.std.specs.Prelude.{◌≡◌, ℕ, ◌+◌, ◌*◌, ◌<◌, ◌≤◌, length, slice_index, min};
+ghost use Rattle.px.specs.Kind.{channels};
 ghost use Rattle.pnm.specs.Samples.{AreValues, IsRaster, bytes_of_sample, sample_at, scaled};
 
 use px::PlaneKind;
-use std::alloc::{AllocError, Global};
 
 // Sample `i` of one byte each.
 #[inline]
@@ -36,63 +36,56 @@ fn scale(top: u32, sample: u32) -> u32
     sample.min(top) * 65_535 / top
 }
 
-// `n` values, one of each sample.
-fn values_of<F: Fn(usize) -> u32>(alloc: Global, n: usize, f: F) -> Result<Vec<u32>, AllocError>
-    requires { (i : ℕ) → i < n → F.pre f i }
-    ensures len { IfOk result (λ v. length v.items ≡ n) }
-    ensures values { IfOk result (λ v. (i : ℕ) → i < n → F.post f i (slice_index v.items i)) }
+// One value of each sample.
+fn set_each<F: Fn(usize) -> u32>(values: &mut [u32], f: F)
+    requires { (i : ℕ) → i < length values.old → F.pre f i }
+    ensures { (i : ℕ) → i < length values.old → F.post f i (slice_index values.new i) }
 {
-    let mut out = Vec::with_capacity(alloc, n)?;
-    for i in 0..n {
-        out.push(f(i))?;
+    for i in 0..values.len() {
+        values[i] = f(i);
     }
-    Ok(out)
 }
 
-// `n` times three values, each sample thrice.
-fn grey_of<F: Fn(usize) -> u32>(alloc: Global, n: usize, f: F) -> Result<Vec<u32>, AllocError>
+// The values of `n` pixels, each sample thrice.
+fn set_thrice<F: Fn(usize) -> u32>(n: usize, values: &mut [u32], f: F)
     requires asks { (i : ℕ) → i < n → F.pre f i }
-    requires few { n ≤ 25165824 }
-    ensures len { IfOk result (λ v. length v.items ≡ n * 3) }
-    ensures values { IfOk result (λ v. (i c : ℕ) → i < n → c < 3 → F.post f i (slice_index v.items (i * 3 + c))) }
+    requires len { length values.old ≡ n * 3 }
+    ensures { (i c : ℕ) → i < n → c < 3 → F.post f i (slice_index values.new (i * 3 + c)) }
 {
-    let mut out = Vec::with_capacity(alloc, n * 3)?;
     for i in 0..n {
         let value = f(i);
-        out.push(value)?;
-        out.push(value)?;
-        out.push(value)?;
+        let at = i * 3;
+        values[at] = value;
+        values[at + 1] = value;
+        values[at + 2] = value;
     }
-    Ok(out)
 }
 
 // The samples as they are, up to the greatest one.
-fn raw_values(alloc: Global, top: u32, n: usize, raster: &[u8]) -> Result<Vec<u32>, AllocError>
-    requires { length raster.now ≡ n * bytes_of_sample top }
-    ensures len { IfOk result (λ v. length v.items ≡ n) }
-    ensures values { IfOk result (λ v. (i : ℕ) → i < n → slice_index v.items i ≡ min (sample_at top raster.now i) top) }
+fn set_raw(top: u32, raster: &[u8], values: &mut [u32])
+    requires { length raster.now ≡ length values.old * bytes_of_sample top }
+    ensures { (i : ℕ) → i < length values.old → slice_index values.new i ≡ min (sample_at top raster.now i) top }
 {
     if top < 256 {
         let value = |i: usize| -> u32
             requires { i < length raster.now }
             ensures { result ≡ min (slice_index raster.entry.now i) top }
         { byte_at(raster, i).min(top) };
-        return values_of(alloc, n, value);
+        return set_each(values, value);
     }
     let value = |i: usize| -> u32
         requires { i * 2 + 1 < length raster.now }
         ensures { result ≡ min (slice_index raster.entry.now (i * 2) * 256 + slice_index raster.entry.now (i * 2 + 1)) top }
     { word_at(raster, i).min(top) };
-    values_of(alloc, n, value)
+    set_each(values, value);
 }
 
 // The samples at their scale.
-fn scaled_values(alloc: Global, top: u32, n: usize, raster: &[u8]) -> Result<Vec<u32>, AllocError>
-    requires len { length raster.now ≡ n * bytes_of_sample top }
+fn set_scaled(top: u32, raster: &[u8], values: &mut [u32])
+    requires len { length raster.now ≡ length values.old * bytes_of_sample top }
     requires some { 0 < top }
     requires small { top ≤ 65535 }
-    ensures len { IfOk result (λ v. length v.items ≡ n) }
-    ensures values { IfOk result (λ v. (i : ℕ) → i < n → slice_index v.items i ≡ scaled top (sample_at top raster.now i)) }
+    ensures { (i : ℕ) → i < length values.old → slice_index values.new i ≡ scaled top (sample_at top raster.now i) }
 {
     if top < 256 {
         let value = |i: usize| -> u32
@@ -101,7 +94,7 @@ fn scaled_values(alloc: Global, top: u32, n: usize, raster: &[u8]) -> Result<Vec
             requires within { i < length raster.now }
             ensures { result ≡ scaled top (slice_index raster.entry.now i) }
         { scale(top, byte_at(raster, i)) };
-        return values_of(alloc, n, value);
+        return set_each(values, value);
     }
     let value = |i: usize| -> u32
         requires some { 0 < top }
@@ -109,17 +102,16 @@ fn scaled_values(alloc: Global, top: u32, n: usize, raster: &[u8]) -> Result<Vec
         requires within { i * 2 + 1 < length raster.now }
         ensures { result ≡ scaled top (slice_index raster.entry.now (i * 2) * 256 + slice_index raster.entry.now (i * 2 + 1)) }
     { scale(top, word_at(raster, i)) };
-    values_of(alloc, n, value)
+    set_each(values, value);
 }
 
-// The samples at their scale, each in all three channels.
-fn grey_values(alloc: Global, top: u32, n: usize, raster: &[u8]) -> Result<Vec<u32>, AllocError>
+// The samples of `n` pixels at their scale, each in all three channels.
+fn set_grey(top: u32, n: usize, raster: &[u8], values: &mut [u32])
     requires len { length raster.now ≡ n * bytes_of_sample top }
-    requires few { n ≤ 25165824 }
+    requires room { length values.old ≡ n * 3 }
     requires some { 0 < top }
     requires small { top ≤ 65535 }
-    ensures len { IfOk result (λ v. length v.items ≡ n * 3) }
-    ensures values { IfOk result (λ v. (i c : ℕ) → i < n → c < 3 → slice_index v.items (i * 3 + c) ≡ scaled top (sample_at top raster.now i)) }
+    ensures { (i c : ℕ) → i < n → c < 3 → slice_index values.new (i * 3 + c) ≡ scaled top (sample_at top raster.now i) }
 {
     if top < 256 {
         let value = |i: usize| -> u32
@@ -128,7 +120,7 @@ fn grey_values(alloc: Global, top: u32, n: usize, raster: &[u8]) -> Result<Vec<u
             requires within { i < length raster.now }
             ensures { result ≡ scaled top (slice_index raster.entry.now i) }
         { scale(top, byte_at(raster, i)) };
-        return grey_of(alloc, n, value);
+        return set_thrice(n, values, value);
     }
     let value = |i: usize| -> u32
         requires some { 0 < top }
@@ -136,28 +128,29 @@ fn grey_values(alloc: Global, top: u32, n: usize, raster: &[u8]) -> Result<Vec<u
         requires within { i * 2 + 1 < length raster.now }
         ensures { result ≡ scaled top (slice_index raster.entry.now (i * 2) * 256 + slice_index raster.entry.now (i * 2 + 1)) }
     { scale(top, word_at(raster, i)) };
-    grey_of(alloc, n, value)
+    set_thrice(n, values, value);
 }
 
-// The values of a picture's raster.
+// Writes the values of `count` pixels of a raster.
 pub(crate) fn decode(
-    alloc: Global,
     kind: PlaneKind,
     samples: usize,
     top: u32,
     count: usize,
     raster: &[u8],
-) -> Result<Vec<u32>, AllocError>
+    values: &mut [u32],
+)
     requires raster { IsRaster kind samples top count raster.now }
-    ensures { IfOk result (λ v. AreValues kind samples top count raster.now v.items) }
+    requires room { length values.old ≡ count * channels kind }
+    ensures { AreValues kind samples top count raster.now values.new }
 {
     match kind {
-        PlaneKind::Mosaic(_) => raw_values(alloc, top, count, raster),
+        PlaneKind::Mosaic(_) => set_raw(top, raster, values),
         PlaneKind::Rgb => {
             if samples == 3 {
-                return scaled_values(alloc, top, count * 3, raster);
+                return set_scaled(top, raster, values);
             }
-            grey_values(alloc, top, count, raster)
+            set_grey(top, count, raster, values);
         }
     }
 }

@@ -171,7 +171,7 @@ fn check_sides(total: usize, kind: PlaneKind, width: Number, height: Number) -> 
 }
 
 // How many bytes a sample has, by the greatest one.
-fn sample_len(top: u32) -> usize
+pub(crate) fn sample_len(top: u32) -> usize
     ensures len { result ≡ bytes_of_sample top }
     ensures few { result ≤ 2 }
 {

@@ -5,8 +5,7 @@ ghost use Rattle.pnm.specs.Fault.{fault_of};
 ghost use Rattle.pnm.specs.Pnm.{IsPicture, IsRefusal};
 
 use crate::PnmEnd;
-use crate::decoding::decode;
-use crate::header::header_of;
+use crate::raster::raster_of;
 use px::{Cfa, Plane, Region};
 use std::alloc::Global;
 
@@ -26,19 +25,11 @@ pub fn read(alloc: Global, bytes: &[u8], cfa: Option<Cfa>) -> Result<Plane, PnmE
     ensures none { OnOk result (fault_of bytes.now cfa ≡ None) }
     ensures fault { IfErr result (IsRefusal bytes.now cfa) }
 {
-    let header = match header_of(bytes, cfa) {
-        Ok(header) => header,
-        Err(fault) => return Err(PnmEnd::Fault(fault)),
-    };
-    let (kind, w, h) = (header.kind, header.w, header.h);
-    let count = h as usize * w as usize;
-    let values = decode(
-        alloc,
-        kind,
-        header.samples,
-        header.top,
-        count,
-        header.raster,
-    )?;
-    Ok(Plane::from_rows(kind, w, h, Region::whole(w, h), values))
+    match raster_of(bytes, cfa) {
+        Ok(raster) => {
+            let (w, h) = raster.sides();
+            Ok(raster.cut(alloc, Region::whole(w, h))?)
+        }
+        Err(fault) => Err(PnmEnd::Fault(fault)),
+    }
 }

@@ -1,28 +1,20 @@
-use Rattle.std.proofs.Common.{arith}
-use Rattle.pnm.proofs.PictureLemmas.{cut_of_read, none_of_fault, picture_from_header}
-use Rattle.pnm.proofs.ValueLemmas.{values_top}
+use Rattle.std.proofs.Common.{◌∙◌}
+use Rattle.px.specs.Cut.{picture_of}
+use Rattle.pnm.proofs.RasterLemmas.{itself, picture_again, whole_again}
 use Rattle.pnm.proofs.reading.read.Goals as goal
 
-pub returns-in-Err-clause-fault : goal.returns-in-Err-clause-fault
-returns-in-Err-clause-fault c = (c.in-Err.ensures, none_of_fault c.args.bytes.now c.args.cfa c.in-Err.fault c.in-Err.ensures)
+pub returns-in_ok-cut-in-Ok-clause-picture : goal.returns-in_ok-cut-in-Ok-clause-picture
+returns-in_ok-cut-in-Ok-clause-picture c =
+    let raster = c.in-Ok.raster in
+    let p = c.in_ok-cut-in-Ok.field-0 in
+    let cut = c.in_ok-cut-in-Ok.ensures.cut (picture_of raster) (itself raster) in
+    picture_again c.args.bytes.now c.args.cfa (picture_of raster) p c.in-Ok.ensures.picture cut (whole_again raster p c.sides-w.result c.sides-w.ensures.sides (c.in_ok-cut-in-Ok.ensures.area ∙ c.whole.ensures) cut)
 
-pub from_rows-requires : goal.from_rows-requires
-from_rows-requires c =
-    let header = c.in-Ok.ensures in
-    let values = c.in_ok-values.ensures in
-    rw c.whole.ensures (record {
-      area = record { wide = header.some_wide; high = header.some_high; right = omega arith; bottom = omega arith };
-      inside = record { across = omega arith; down = omega arith };
-      wide = header.wide;
-      high = header.high;
-      wide_enough = header.wide_enough;
-      high_enough = header.high_enough;
-      len = values.len;
-      top = values_top _ _ _ _ _ _ values header.some_top header.top_fits;
-    })
+pub returns-in_ok-cut-in-Ok-clause-only : goal.returns-in_ok-cut-in-Ok-clause-only
+returns-in_ok-cut-in-Ok-clause-only c q shows = c.in_ok-cut-in-Ok.ensures.cut q (c.in-Ok.ensures.only q shows)
 
-pub returns-clause-picture : goal.returns-clause-picture
-returns-clause-picture c = rw (c.from_rows.ensures, c.whole.ensures) (picture_from_header _ _ _ _ _ _ _ _ _ c.in-Ok.ensures c.in_ok-values.ensures)
-
-pub returns-clause-only : goal.returns-clause-only
-returns-clause-only c q shows = rw (c.from_rows.ensures, c.whole.ensures) (cut_of_read _ _ _ _ _ _ _ _ _ c.in-Ok.ensures c.in_ok-values.ensures q shows)
+pub returns-in_ok-cut-in-Ok-clause-whole : goal.returns-in_ok-cut-in-Ok-clause-whole
+returns-in_ok-cut-in-Ok-clause-whole c =
+    let raster = c.in-Ok.raster in
+    let p = c.in_ok-cut-in-Ok.field-0 in
+    whole_again raster p c.sides-w.result c.sides-w.ensures.sides (c.in_ok-cut-in-Ok.ensures.area ∙ c.whole.ensures) (c.in_ok-cut-in-Ok.ensures.cut (picture_of raster) (itself raster))
