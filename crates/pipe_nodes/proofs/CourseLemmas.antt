@@ -142,6 +142,40 @@ none-shaped pieces p o region none area copy =
 pub none-made : (pieces : List Active) (c : CourseSeen) (p o : Cut) → pieces ≡ [] → ((q : Picture) → IsCutOf q p → IsCutOf q o) → IsMadeBy pieces c p o
 none-made pieces c p o none copy = subst (λ list. IsMadeBy list c p o) (sym none) (λ source i level before come part. copy i part)
 
+-- ---- bands cut out of a run's input
+
+-- a part of the input is a cut of each picture of which the input is one
+abbrev pub IsPartOfInput : Cut → Cut → Type 0
+IsPartOfInput input band = (q : Picture) → IsCutOf q input → IsCutOf q band
+
+part-kind : (input band : Cut) → IsPartOfInput input band → band.kind ≡ input.kind
+part-kind input band cut = (cut (picture_of input) (itself input)).kind
+
+pub part-sides : (input band : Cut) → IsPartOfInput input band → ◌≡◌ {A = ℕ × ℕ} (band.w, band.h) (input.w, input.h)
+part-sides input band cut = let seen = cut (picture_of input) (itself input) in λ x. (seen.wide x, seen.high x)
+
+-- what can be run on the input can be run on the part of it that is needed
+pub can-band : (actives : List Active) (input band : Cut) (region : Area) → IsPartOfInput input band → band.area ≡ needed_before actives (input.w, input.h) region → CanRun actives input region → CanRun actives band region
+can-band actives input band region cut area can =
+    let sides = part-sides input band cut in
+    record {
+      takes = subst (λ k. AllTake k actives) (sym (part-kind input band cut)) can.takes;
+      inside = subst (λ (s : ℕ × ℕ). IsIn region (sides_made actives s).0 (sides_made actives s).1) (sym sides) can.inside;
+      covers = subst (λ (a : Area). Covers band.area a) (area ∙ ap (λ s. needed_before actives s region) (sym sides)) (record { left = omega arith; right = omega arith; top = omega arith; bottom = omega arith });
+    }
+
+-- what pieces make of that part has the shape of what they make of the input
+pub shaped-band : (actives : List Active) (input band o : Cut) (region : Area) → IsPartOfInput input band
+    → IsShaped (kind_behind band.kind actives) (sides_made actives (band.w, band.h)).0 (sides_made actives (band.w, band.h)).1 region o
+    → IsShaped (kind_behind input.kind actives) (sides_made actives (input.w, input.h)).0 (sides_made actives (input.w, input.h)).1 region o
+shaped-band actives input band o region cut shaped =
+    subst (λ k. IsShaped (kind_behind k actives) (sides_made actives (input.w, input.h)).0 (sides_made actives (input.w, input.h)).1 region o) (part-kind input band cut)
+    (subst (λ (s : ℕ × ℕ). IsShaped (kind_behind band.kind actives) (sides_made actives s).0 (sides_made actives s).1 region o) (part-sides input band cut) shaped)
+
+-- and is what they make of the input
+pub made-band : (actives : List Active) (c : CourseSeen) (input band o : Cut) → IsPartOfInput input band → IsMadeBy actives c band o → IsMadeBy actives c input o
+made-band actives c input band o cut made source i level before come part = made source i level before come (cut i part)
+
 -- ---- legs
 
 -- a whole plane can be run for the whole of what comes out
@@ -209,9 +243,14 @@ pub last-cut : (level : ℕ) (source input plane o : Cut) (pieces later : List A
     → ((q : Picture) → IsCutOf q source → IsCutOf (input_of q level) input) → IsMadeBy later d plane o → (q : Picture) → IsCutOf q source → IsCutOf (whole q level pieces) o
 last-cut level source input plane o pieces later c d last come cut made q own = last.made o made q (input_of q level) level [] (come q own) (cut q own)
 
+-- what all pieces make of the level is cut out of the whole run
+pub all-cut : (level : ℕ) (source input o : Cut) (pieces : List Active) (c : CourseSeen) → ((q : Picture) → IsCutOf q source → HasCome q level [] c) → ((q : Picture) → IsCutOf q source → IsCutOf (input_of q level) input)
+    → IsMadeBy pieces c input o → (q : Picture) → IsCutOf q source → IsCutOf (whole q level pieces) o
+all-cut level source input o pieces c come cut made q own = made q (input_of q level) level [] (come q own) (cut q own)
+
 -- and has the sides of the whole run
-pub last-sides : (level : ℕ) (source input plane : Cut) (pieces later : List Active) (c d : CourseSeen) → IsLastLeg pieces c input later d plane → ((q : Picture) → IsCutOf q source → IsCutOf (input_of q level) input)
-    → (q : Picture) → IsCutOf q source → sides_made later (plane.w, plane.h) ≡ sides_of (whole q level pieces)
-last-sides level source input plane pieces later c d last cut q own =
+pub all-sides : (level : ℕ) (source input : Cut) (pieces : List Active) → ((q : Picture) → IsCutOf q source → IsCutOf (input_of q level) input)
+    → (q : Picture) → IsCutOf q source → sides_made pieces (input.w, input.h) ≡ sides_of (whole q level pieces)
+all-sides level source input pieces cut q own =
     let seen = cut q own in
-    last.sides ∙ ap (sides_made pieces) (λ x. (seen.wide x, seen.high x)) ∙ sym (whole-sides q level pieces)
+    ap (sides_made pieces) (λ x. (seen.wide x, seen.high x)) ∙ sym (whole-sides q level pieces)

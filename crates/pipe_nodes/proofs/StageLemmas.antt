@@ -1,7 +1,7 @@
 -- Lemmas on stages of a run.
 use Rattle.std.proofs.Common.{◌≡◌, ℕ, ◌^◌, ◌≤◌, zero, suc, sym, ap, ◌∙◌, refl, arith}
 use Rattle.px.specs.Area.{Fits}
-use Rattle.px.specs.Cut.{Cut, IsPlane, picture_of}
+use Rattle.px.specs.Cut.{picture_of}
 use Rattle.px.specs.Picture.{Picture}
 use Rattle.geometry.specs.Sides.{sides_behind}
 use Rattle.local_modules.proofs.RadiusLemmas.{two_some}
@@ -29,17 +29,13 @@ stage-sides s right =
     ap (λ n. (n, s.plane.h)) right.wide ∙ ap (λ n. ((picture_at s).w, n)) right.high
     ∙ whole-sides (picture_of s.source) s.prefix.level s.prefix.actives ∙ ap (sides_behind (settings_of s.prefix.actives)) (input-sides (picture_of s.source) s.prefix.level)
 
--- they are sides of a picture
-pub start-fits : (p : Cut) (sides : ℕ × ℕ) (l : ℕ) → IsPlane p → sides ≡ (p.w, p.h) → l ≤ 8 → Fits 0 0 (level_side sides.0 l) (level_side sides.1 l)
-start-fits p sides l plane is low =
+-- the sides of a level are sides of a picture
+pub level-fits : (w h l : ℕ) → Fits 0 0 w h → l ≤ 8 → Fits 0 0 (level_side w l) (level_side h l)
+level-fits w h l fits low =
     let two = two_some l low in
-    let wide : sides.0 ≡ p.w = ap (λ s. s.0) is in
-    let high : sides.1 ≡ p.h = ap (λ s. s.1) is in
-    let columns = blocks_small (2 ^ l) sides.0 two in
-    let rows = blocks_small (2 ^ l) sides.1 two in
     record {
-      wide = blocks_some (2 ^ l) sides.0 two (omega (arith, wide, plane.area.wide, plane.inside.across));
-      high = blocks_some (2 ^ l) sides.1 two (omega (arith, high, plane.area.high, plane.inside.down));
-      right = omega (arith, columns, wide, plane.wide);
-      bottom = omega (arith, rows, high, plane.high);
+      wide = blocks_some (2 ^ l) w two fits.wide;
+      high = blocks_some (2 ^ l) h two fits.high;
+      right = omega (arith, blocks_small (2 ^ l) w two, fits.right);
+      bottom = omega (arith, blocks_small (2 ^ l) h two, fits.bottom);
     }

@@ -11,6 +11,7 @@ ghost use Rattle.pipe_nodes.specs.Course.{CanRun, IsMadeBy, sides_made};
 ghost use Rattle.pipe_nodes.specs.Kinds.{AllTake, kind_behind};
 
 use crate::course::Course;
+use crate::input::Input;
 use crate::making::make;
 use crate::piece::Piece;
 use crate::regions::{region_before, shape_made};
@@ -112,59 +113,59 @@ pub(crate) fn run_in_turn(
     run_in_turn(alloc, behind, input, next.or(made), later, region)
 }
 
-/// A region of what the pieces make of a plane, put together from bands of rows.
-pub(crate) fn run_bands<R: Threads + Sync>(
+/// A region of what the pieces make of a run's input, put together from bands of rows.
+pub(crate) fn run_bands<R: Threads + Sync, I: Input + Sync>(
     rt: &R,
     alloc: Global,
     course: Course,
-    input: &Plane,
+    input: &I,
     pieces: &[Piece],
     region: Region,
 ) -> Result<Plane, AllocError>
-    requires out { course.geometry.out ≡ (input.now.w, input.now.h) }
-    requires can { CanRun pieces.now input.now region }
-    ensures shaped { IfOk result (IsShaped (kind_behind input.now.kind pieces.now) (sides_made pieces.now (input.now.w, input.now.h)).0 (sides_made pieces.now (input.now.w, input.now.h)).1 region) }
-    ensures made { IfOk result (IsMadeBy pieces.now course input.now) }
+    requires out { course.geometry.out ≡ ((I.seen input.now).w, (I.seen input.now).h) }
+    requires can { CanRun pieces.now (I.seen input.now) region }
+    ensures shaped { IfOk result (IsShaped (kind_behind (I.seen input.now).kind pieces.now) (sides_made pieces.now ((I.seen input.now).w, (I.seen input.now).h)).0 (sides_made pieces.now ((I.seen input.now).w, (I.seen input.now).h)).1 region) }
+    ensures made { IfOk result (IsMadeBy pieces.now course (I.seen input.now)) }
 {
-    let (w, h) = input.sides();
-    let (kind, columns, high) = shape_made(pieces, input.kind(), w, h);
+    let (own, w, h) = input.shape();
+    let (kind, columns, high) = shape_made(pieces, own, w, h);
     let make = |band: Region| -> Result<Plane, AllocError>
-        requires out { course.geometry.out ≡ (input.now.w, input.now.h) }
-        requires can { CanRun pieces.now input.now band }
-        ensures shaped { IfOk result (IsShaped (kind_behind input.entry.now.kind pieces.entry.now) (sides_made pieces.entry.now (input.entry.now.w, input.entry.now.h)).0 (sides_made pieces.entry.now (input.entry.now.w, input.entry.now.h)).1 band) }
-        ensures made { IfOk result (IsMadeBy pieces.entry.now course input.entry.now) }
-    { run_in_turn(alloc, course, input, None, pieces, band) };
+        requires out { course.geometry.out ≡ ((I.seen input.now).w, (I.seen input.now).h) }
+        requires can { CanRun pieces.now (I.seen input.now) band }
+        ensures shaped { IfOk result (IsShaped (kind_behind (I.seen input.entry.now).kind pieces.entry.now) (sides_made pieces.entry.now ((I.seen input.entry.now).w, (I.seen input.entry.now).h)).0 (sides_made pieces.entry.now ((I.seen input.entry.now).w, (I.seen input.entry.now).h)).1 band) }
+        ensures made { IfOk result (IsMadeBy pieces.entry.now course (I.seen input.entry.now)) }
+    { input.run(alloc, course, pieces, band) };
     let rows = band_rows(pieces, region.w);
     paint_bands(rt, alloc, kind, columns, high, region, rows, make)
 }
 
-/// The bytes, as a P6 of that depth, of the whole picture that the pieces make of a whole plane, with its
+/// The bytes, as a P6 of that depth, of the whole picture that the pieces make of a whole input, with its
 /// sides. No plane of that picture stands whole.
-pub(crate) fn run_bytes<R: Threads + Sync>(
+pub(crate) fn run_bytes<R: Threads + Sync, I: Input + Sync>(
     rt: &R,
     alloc: Global,
     course: Course,
-    input: &Plane,
+    input: &I,
     pieces: &[Piece],
     depth: Depth,
 ) -> Result<(u32, u32, Vec<u8>), AllocError>
-    requires out { course.geometry.out ≡ (input.now.w, input.now.h) }
-    requires whole { IsWhole input.now }
-    requires takes { AllTake input.now.kind pieces.now }
-    requires rgb { kind_behind input.now.kind pieces.now ≡ Rgb }
-    ensures sides { IfOk result (λ made. (made.0, made.1) ≡ sides_made pieces.now (input.now.w, input.now.h)) }
-    ensures bytes { IfOk result (λ made. (q : Picture) → ((o : Cut) → IsMadeBy pieces.now course input.now o → IsCutOf q o) → made.2.items ≡ written q depth) }
+    requires out { course.geometry.out ≡ ((I.seen input.now).w, (I.seen input.now).h) }
+    requires whole { IsWhole (I.seen input.now) }
+    requires takes { AllTake (I.seen input.now).kind pieces.now }
+    requires rgb { kind_behind (I.seen input.now).kind pieces.now ≡ Rgb }
+    ensures sides { IfOk result (λ made. (made.0, made.1) ≡ sides_made pieces.now ((I.seen input.now).w, (I.seen input.now).h)) }
+    ensures bytes { IfOk result (λ made. (q : Picture) → ((o : Cut) → IsMadeBy pieces.now course (I.seen input.now) o → IsCutOf q o) → made.2.items ≡ written q depth) }
 {
-    let (w, h) = input.sides();
-    let (_, columns, high) = shape_made(pieces, input.kind(), w, h);
+    let (own, w, h) = input.shape();
+    let (_, columns, high) = shape_made(pieces, own, w, h);
     let region = Region::whole(columns, high);
-    prove!(input.region().covers(region_before(pieces, w, h, region)));
+    prove!(input.held().covers(region_before(pieces, w, h, region)));
     let make = |band: Region| -> Result<Plane, AllocError>
-        requires out { course.geometry.out ≡ (input.now.w, input.now.h) }
-        requires can { CanRun pieces.now input.now band }
-        ensures shaped { IfOk result (IsShaped (kind_behind input.entry.now.kind pieces.entry.now) (sides_made pieces.entry.now (input.entry.now.w, input.entry.now.h)).0 (sides_made pieces.entry.now (input.entry.now.w, input.entry.now.h)).1 band) }
-        ensures made { IfOk result (IsMadeBy pieces.entry.now course input.entry.now) }
-    { run_in_turn(alloc, course, input, None, pieces, band) };
+        requires out { course.geometry.out ≡ ((I.seen input.now).w, (I.seen input.now).h) }
+        requires can { CanRun pieces.now (I.seen input.now) band }
+        ensures shaped { IfOk result (IsShaped (kind_behind (I.seen input.entry.now).kind pieces.entry.now) (sides_made pieces.entry.now ((I.seen input.entry.now).w, (I.seen input.entry.now).h)).0 (sides_made pieces.entry.now ((I.seen input.entry.now).w, (I.seen input.entry.now).h)).1 band) }
+        ensures made { IfOk result (IsMadeBy pieces.entry.now course (I.seen input.entry.now)) }
+    { input.run(alloc, course, pieces, band) };
     let rows = band_rows(pieces, columns);
     let bytes = pnm::write_bands(rt, alloc, columns, high, depth, rows, make)?;
     Ok((columns, high, bytes))

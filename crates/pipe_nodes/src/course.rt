@@ -1,4 +1,5 @@
 ghost use Rattle.std.specs.Prelude.{◌≡◌, ℕ, ◌≤◌, List, [], ◌∷◌, ◌++◌};
+ghost use Rattle.px.specs.Area.{Fits};
 ghost use Rattle.px.specs.Cut.{IsCutOf};
 ghost use Rattle.px.specs.Picture.{Picture};
 ghost use Rattle.geometry.specs.Sides.{sides_after};
@@ -43,6 +44,16 @@ impl Course {
         ensures come { (q : Picture) → IsCutOf q source.now → HasCome q level [] result }
     {
         let (w, h) = source.plane().sides();
+        Course::at(w, h, level)
+    }
+
+    // The same, over a level of a source of sides `w` and `h`.
+    pub(crate) fn at(w: u32, h: u32, level: u8) -> Course
+        requires sides { Fits 0 0 w h }
+        requires level { level ≤ 8 }
+        ensures out { result.geometry.out ≡ (level_side w level, level_side h level) }
+        ensures come { (q : Picture) → w ≡ q.w → h ≡ q.h → HasCome q level [] result }
+    {
         let (columns, rows) = level_sides(w, h, level);
         Course {
             w,

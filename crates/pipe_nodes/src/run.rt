@@ -11,16 +11,17 @@ ghost use Rattle.pipe_nodes.specs.Kinds.{AllTake, IsRun, kind_behind};
 ghost use Rattle.pipe_nodes.specs.Whole.{input_of, whole};
 ghost use Rattle.pipe_nodes.specs.Windows.{CanShow, needed_of, windowed};
 
-use crate::bands::{run_bands, run_bytes, standing};
+use crate::bands::{run_bands, standing};
 use crate::course::Course;
 use crate::gather::actives;
-use crate::legs::run_to_last;
+use crate::legs::{run_to_last, run_written};
 use crate::piece::Piece;
 use crate::regions::{region_before, shape_made};
 use crate::show::{Show, Window};
 use crate::windowing::{needed_region, window_of};
 use history::History;
 use modules_raw::{Source, level};
+use pnm::Raster;
 use px::{Depth, Plane};
 use std::alloc::{AllocError, Global};
 use std::thread::Threads;
@@ -130,9 +131,7 @@ fn written_whole<R: Threads + Sync>(
     let first = level_of(rt, alloc, source, level)?;
     let input = standing(&first, whole);
     let course = Course::start(source, level);
-    let last = run_to_last(rt, alloc, course, input, None, &pieces)?;
-    let plane = standing(&last.made, input);
-    run_bytes(rt, alloc, last.course, plane, last.pieces, depth)
+    run_written(rt, alloc, course, input, &pieces, depth)
 }
 
 /// The same picture as the bytes of a P6 of the shown depth, with its sides. The bytes of a whole picture
@@ -158,4 +157,24 @@ pub fn shown_bytes<R: Threads + Sync>(
             Ok((w, h, pnm::write(alloc, &plane, show.depth)?))
         }
     }
+}
+
+/// The bytes of a P6 of that depth, with its sides, of the whole picture that what is active in a history
+/// makes of the picture of a raster. Each band is decoded, made and written by itself, so that neither a
+/// plane of the source nor one of the result stands whole.
+pub fn developed_bytes<R: Threads + Sync>(
+    rt: &R,
+    alloc: Global,
+    raster: &Raster<'_>,
+    history: &History,
+    depth: Depth,
+) -> Result<(u32, u32, Vec<u8>), AllocError>
+    ensures wide { IfOk result (λ made. (q : Picture) → IsCutOf q raster.now → made.0 ≡ (whole q 0 (actives_of history.now)).w) }
+    ensures high { IfOk result (λ made. (q : Picture) → IsCutOf q raster.now → made.1 ≡ (whole q 0 (actives_of history.now)).h) }
+    ensures bytes { IfOk result (λ made. (q : Picture) → IsCutOf q raster.now → made.2.items ≡ written (whole q 0 (actives_of history.now)) depth) }
+{
+    let pieces = committed(alloc, history)?;
+    let (w, h) = raster.sides();
+    let course = Course::at(w, h, 0);
+    run_written(rt, alloc, course, raster, &pieces, depth)
 }

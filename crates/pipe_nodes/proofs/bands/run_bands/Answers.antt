@@ -8,7 +8,8 @@ use Rattle.pipe_nodes.proofs.bands.run_bands.Goals as goal
 
 pub paint_bands-requires-clause-asks : goal.paint_bands-requires-clause-asks
 paint_bands-requires-clause-asks g c κs within = λ r covers.
-    (c.requires.out, can-part c.args.pieces.now c.args.input.now c.args.region r (subst (AreSound c.args.pieces.now) c.sides-w.ensures.sides c.shape_made-kind.ensures.sound) (subst IsArea c.region.view_is c.region.invariant) c.requires.can covers)
+    let input = g.I.Input.seen c.args.input.now in
+    (c.requires.out, can-part c.args.pieces.now input c.args.region r (subst (AreSound c.args.pieces.now) c.shape-own.ensures.sides c.shape_made-kind.ensures.sound) (subst IsArea c.region.view_is c.region.invariant) c.requires.can covers)
 
 pub returns-clause-made : goal.returns-clause-made
 returns-clause-made g c =

@@ -1,16 +1,15 @@
 use Rattle.std.proofs.Common.{ap, sym, ◌∙◌, subst}
 use Rattle.std.specs.Prelude.{unwrap_or}
 use Rattle.std.proofs.lemmas.Result.{IfOk-weaker}
-use Rattle.px.specs.Cut.{Cut, IsCutOf}
+use Rattle.px.specs.Cut.{IsCutOf}
 use Rattle.px.specs.Picture.{Picture}
 use Rattle.pipe_nodes.specs.Actives.{actives_of}
-use Rattle.pipe_nodes.specs.Course.{IsMadeBy, sides_made}
 use Rattle.pipe_nodes.specs.Whole.{input_of, whole}
-use Rattle.pipe_nodes.proofs.CourseLemmas.{last-cut, last-sides, level-out}
+use Rattle.pipe_nodes.proofs.CourseLemmas.{all-cut, all-sides, level-out}
 use Rattle.pipe_nodes.proofs.run.written_whole.Goals as goal
 
-pub run_to_last-requires-clause-out : goal.run_to_last-requires-clause-out
-run_to_last-requires-clause-out g c κs within =
+pub run_written-requires-clause-out : goal.run_written-requires-clause-out
+run_written-requires-clause-out g c κs within =
     let level = c.args.level in
     let input = c.standing-input.result.now in
     let input_is = ap (unwrap_or c.in_ok-first.first) (sym c.plane-whole.ensures.plane) ∙ sym c.standing-input.ensures in
@@ -24,12 +23,8 @@ returns-clause-wide g c =
     let input_is = ap (unwrap_or c.in_ok-first.first) (sym c.plane-whole.ensures.plane) ∙ sym c.standing-input.ensures in
     let input_cut = λ (p : Picture) (part : IsCutOf p c.args.source.now). subst (IsCutOf (input_of p level)) input_is (c.in_ok-first.ensures.cut p part) in
     let pieces_are = c.deref.ensures.value ∙ c.in_ok-pieces.ensures.value in
-    let last = c.in_ok-last.last in
-    let plane = unwrap_or last.made input in
-    IfOk-weaker c.run_bytes.result _ _ (λ made sides q own.
-    ap (λ s. s.0) (sides ∙ ap (λ (y : Cut). sides_made last.pieces.now (y.w, y.h)) c.standing-plane.ensures
-    ∙ last-sides level c.args.source.now input plane c.deref.result.now last.pieces.now c.start-course.result last.course c.in_ok-last.ensures input_cut q own)
-    ∙ ap (λ list. (whole q level list).w) pieces_are) c.run_bytes.ensures.sides
+    IfOk-weaker c.run_written.result _ _
+    (λ made sides q own. ap (λ s. s.0) (sides ∙ all-sides level c.args.source.now input c.deref.result.now input_cut q own) ∙ ap (λ list. (whole q level list).w) pieces_are) c.run_written.ensures.sides
 
 pub returns-clause-high : goal.returns-clause-high
 returns-clause-high g c =
@@ -38,12 +33,8 @@ returns-clause-high g c =
     let input_is = ap (unwrap_or c.in_ok-first.first) (sym c.plane-whole.ensures.plane) ∙ sym c.standing-input.ensures in
     let input_cut = λ (p : Picture) (part : IsCutOf p c.args.source.now). subst (IsCutOf (input_of p level)) input_is (c.in_ok-first.ensures.cut p part) in
     let pieces_are = c.deref.ensures.value ∙ c.in_ok-pieces.ensures.value in
-    let last = c.in_ok-last.last in
-    let plane = unwrap_or last.made input in
-    IfOk-weaker c.run_bytes.result _ _ (λ made sides q own.
-    ap (λ s. s.1) (sides ∙ ap (λ (y : Cut). sides_made last.pieces.now (y.w, y.h)) c.standing-plane.ensures
-    ∙ last-sides level c.args.source.now input plane c.deref.result.now last.pieces.now c.start-course.result last.course c.in_ok-last.ensures input_cut q own)
-    ∙ ap (λ list. (whole q level list).h) pieces_are) c.run_bytes.ensures.sides
+    IfOk-weaker c.run_written.result _ _
+    (λ made sides q own. ap (λ s. s.1) (sides ∙ all-sides level c.args.source.now input c.deref.result.now input_cut q own) ∙ ap (λ list. (whole q level list).h) pieces_are) c.run_written.ensures.sides
 
 pub returns-clause-bytes : goal.returns-clause-bytes
 returns-clause-bytes g c =
@@ -52,9 +43,6 @@ returns-clause-bytes g c =
     let input_is = ap (unwrap_or c.in_ok-first.first) (sym c.plane-whole.ensures.plane) ∙ sym c.standing-input.ensures in
     let input_cut = λ (p : Picture) (part : IsCutOf p c.args.source.now). subst (IsCutOf (input_of p level)) input_is (c.in_ok-first.ensures.cut p part) in
     let pieces_are = c.deref.ensures.value ∙ c.in_ok-pieces.ensures.value in
-    let last = c.in_ok-last.last in
-    let plane = unwrap_or last.made input in
-    IfOk-weaker c.run_bytes.result _ _ (λ made bytes q own.
-    bytes (whole q level (actives_of c.args.history.now)) (λ o is. subst (λ list. IsCutOf (whole q level list) o) pieces_are
-    (last-cut level c.args.source.now input plane o c.deref.result.now last.pieces.now c.start-course.result last.course c.in_ok-last.ensures c.start-course.ensures.come input_cut
-    (subst (λ y. IsMadeBy last.pieces.now last.course y o) c.standing-plane.ensures is) q own))) c.run_bytes.ensures.bytes
+    IfOk-weaker c.run_written.result _ _
+    (λ made bytes q own. bytes (whole q level (actives_of c.args.history.now)) (λ o is. subst (λ list. IsCutOf (whole q level list) o) pieces_are
+    (all-cut level c.args.source.now input o c.deref.result.now c.start-course.result c.start-course.ensures.come input_cut is q own))) c.run_written.ensures.bytes

@@ -1,8 +1,8 @@
-use Rattle.std.proofs.Common.{sym, subst}
-use Rattle.px.specs.Area.{Fits}
-use Rattle.pipe_nodes.proofs.StageLemmas.{start-fits}
+use Rattle.std.proofs.Common.{ap, ◌∙◌}
+use Rattle.px.specs.Cut.{Cut}
 use Rattle.pipe_nodes.proofs.course.Course.start.Goals as goal
 
-pub start-requires : goal.start-requires
-start-requires c =
-    record { sides = subst (λ s. Fits 0 0 s.0 s.1) (sym c.level_sides-columns.ensures) (start-fits c.plane.result.now c.sides-w.result c.args.level c.sides-w.ensures.valid c.sides-w.ensures.sides c.requires.level) }
+pub returns-clause-come : goal.returns-clause-come
+returns-clause-come c = λ q part.
+    let sides = c.sides-w.ensures.sides ∙ ap (λ (p : Cut). (p.w, p.h)) c.plane.ensures.plane in
+    c.at.ensures.come q (ap (λ s. s.0) sides ∙ part.wide) (ap (λ s. s.1) sides ∙ part.high)
