@@ -16,6 +16,14 @@ developed script q = picture_at q script (changes script)
 abbrev pub out_bytes : Recipe → Picture → List ℕ
 out_bytes script q = written (developed script q) script.settings.depth
 
+-- the source stood there, and these are the sides and the bytes of what the script makes of it
+pub record IsMade (script : Recipe) (name : List ℕ) (w h : ℕ) (bytes : List ℕ) (fs : Files) : Type 0 where
+  pub picture : Picture
+  pub source : HasSource name script.settings.cfa fs picture
+  pub wide : (developed script picture).w ≡ w
+  pub high : (developed script picture).h ≡ h
+  pub bytes_are : bytes ≡ out_bytes script picture
+
 -- Script and source stood there, and the new files are the old ones with the written bytes of the developed picture, of these
 -- sides, put at OUT, and nothing else.
 pub record IsDeveloped (c : Command) (fs : Files) (w h : ℕ) (new : Option Files) : Type 0 where

@@ -20,7 +20,7 @@ use std::alloc::Global;
 const TEXT_FRONT: usize = LONGEST + 1;
 
 /// How many bytes of a source are looked at.
-const SOURCE_FRONT: usize = 268_435_456;
+pub(crate) const SOURCE_FRONT: usize = 268_435_456;
 
 /// The script under a name.
 pub(crate) fn read_script<S: Shelf>(
