@@ -23,6 +23,7 @@ use Rattle.events.specs.declared.fault.EventsFault.{EventsFault}
 use Rattle.events.specs.Forms.{event_of}
 use Rattle.events.specs.Events.{◌>>=◌, fault_at, or_form, or_text, event_at, events_from, list_of, events_of}
 use Rattle.develop_session.specs.declared.status.Status.TheVariants as status
+use Rattle.develop_session.specs.Develop.{IsMade, developed, out_bytes}
 use Rattle.develop_session.specs.Files.{HasScript, HasBadScript, HasSource, HasBadSource, HasEvents, HasBadEvents}
 use Rattle.develop_session.specs.Failures.{EventsFail}
 
@@ -130,3 +131,14 @@ pub has_bad_source : (name : List ℕ) (cfa : Option Cfa) (fault : PnmFault) (fs
 has_bad_source name cfa fault fs n front all refused e =
     let file = front_read name fs n front e in
     record { bytes = file.bytes; stands = file.stands; reads = ap (λ t. fault_of t cfa) (ap (λ m. take m file.bytes) (sym all) ∙ file.front_is) ∙ refused }
+
+-- what the script makes of the picture that the front of a source is
+pub is_made : (script : Recipe) (name : List ℕ) (fs : Files) (n : ℕ) (front : List ℕ) (q : Picture) (w h : ℕ) (bytes : List ℕ) → IsPicture front script.settings.cfa q → w ≡ (developed script q).w → h ≡ (developed script q).h
+    → bytes ≡ out_bytes script q → option_map (take n) (held fs name) ≡ Some front → IsMade script name w h bytes fs
+is_made script name fs n front q w h bytes shows wide high made e = record {
+  picture = q;
+  source = has_source name script.settings.cfa fs n front q shows e;
+  wide = sym wide;
+  high = sym high;
+  bytes_are = made;
+}
