@@ -1,11 +1,12 @@
-/* Lets one call of a program fail: its allocation number FAIL_AT, or, with FAIL_THREADS, each start of a thread. At its end the program writes to
-   the file CALLS how many allocations it asked for. Built as a library that is loaded before the C library's own. */
+/* Lets one call of a program fail: its allocation number FAIL_AT, or, with FAIL_THREADS, each start of a thread. When that allocation comes, a byte is
+   written to the file FAILED. Built as a library that is loaded before the C library's own. */
 #define _GNU_SOURCE
 #include <errno.h>
+#include <fcntl.h>
 #include <pthread.h>
 #include <stdatomic.h>
-#include <stdio.h>
 #include <stdlib.h>
+#include <unistd.h>
 
 void *__libc_malloc(size_t);
 void *__libc_calloc(size_t, size_t);
@@ -21,20 +22,14 @@ __attribute__((constructor)) static void start(void) {
     atomic_store(&calls, 0);
 }
 
-__attribute__((destructor)) static void count(void) {
-    const char *path = getenv("CALLS");
-    long asked = atomic_load(&calls);
-    fail_at = -1;
-    if (!path) return;
-    FILE *out = fopen(path, "w");
-    if (out) {
-        fprintf(out, "%ld\n", asked);
-        fclose(out);
-    }
-}
-
 static int fails(void) {
     if (atomic_fetch_add(&calls, 1) + 1 != fail_at) return 0;
+    const char *path = getenv("FAILED");
+    int file = path ? open(path, O_WRONLY) : -1;
+    if (file >= 0) {
+        if (write(file, "f", 1) != 1) abort();
+        close(file);
+    }
     errno = ENOMEM;
     return 1;
 }

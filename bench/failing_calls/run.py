@@ -22,27 +22,29 @@ def files(folder):
 
 
 def tried(words, library, **env):
-    """The status, what is said on both streams, the files and the number of allocations."""
-    with tempfile.TemporaryDirectory() as room, tempfile.NamedTemporaryFile() as calls:
+    """The status, what is said on both streams, the files, and whether the call that was to fail came."""
+    with tempfile.TemporaryDirectory() as room, tempfile.NamedTemporaryFile() as failed:
         run = subprocess.run([program, *words], cwd=room, capture_output=True, timeout=60,
-                             env={**os.environ, "LD_PRELOAD": str(library), "CALLS": calls.name, **env})
-        counted = Path(calls.name).read_text().strip()
-        return run.returncode, run.stdout + run.stderr, files(Path(room)), int(counted or 0)
+                             env={**os.environ, "LD_PRELOAD": str(library), "FAILED": failed.name, **env})
+        return run.returncode, run.stdout + run.stderr, files(Path(room)), Path(failed.name).read_text() != ""
 
 
 def is_right(status, said, found, right):
     if status == 0:
         return found == right
-    return status == 7 and b"out of memory" in said and all(right.get(name) == text for name, text in found.items())
+    if said == b"":
+        # memory ran out in the last line alone: all files are there
+        return status == 7 and found == right
+    return status == 7 and said == b"out of memory\n" and all(right.get(name) == text for name, text in found.items())
 
 
 def each_allocation(name, words, library):
     status, _, right, _ = tried(words, library)
     if status != 0:
         sys.exit("%s ends with %d where nothing fails" % (name, status))
-    ok, refused, wrong, at, counted = 0, 0, 0, 1, 1
-    while at <= counted:
-        status, said, found, counted = tried(words, library, FAIL_AT=str(at))
+    ok, refused, wrong, at, came = 0, 0, 0, 1, True
+    while came:
+        status, said, found, came = tried(words, library, FAIL_AT=str(at))
         if not is_right(status, said, found, right):
             wrong += 1
             print("%s, allocation %d: status %d, %s" % (name, at, status, said[:200]))

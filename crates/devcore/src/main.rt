@@ -16,8 +16,8 @@ use std::sync::Wait;
 use std::thread::Threads;
 use std::{env, io};
 
-// The largest block that the C library keeps for later ones once it was given back, some 32 MB: a page less for its head.
-const KEPT_BLOCK: usize = 32 * 1024 * 1024 - 8192;
+// The largest block that the C library keeps for later ones once it was given back: above the planes of bands and of views.
+const KEPT_BLOCK: usize = 8 * 1024 * 1024;
 
 // Takes a block and gives it back at once, without touching it. From then on the C library keeps blocks of up to that size for
 // the next ones, where it would hand each one back to the system and ask for fresh pages: planes come and go all the time.
