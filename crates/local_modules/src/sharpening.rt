@@ -122,7 +122,7 @@ fn sharpen_by_in_turn(
         input,
         blurred: &blurred,
     };
-    paint_in_turn(alloc, PlaneKind::Rgb, w, h, region, &painter)
+    paint_in_turn(alloc, None, PlaneKind::Rgb, w, h, region, &painter)
 }
 
 /// Sharpen of a picture of a level, 0 to 8: `clamp(v + floor((v - b) * amount / 4096))` in each channel,

@@ -89,9 +89,10 @@ pub fn curve<R: Threads + Sync>(
     paint(rt, alloc, PlaneKind::Rgb, w, h, region, &painter)
 }
 
-/// The same region, its rows one after another, as a band of a run makes it.
+/// The same region, its rows one after another, as a band of a run makes it. A spare plane lends it its memory.
 pub fn curve_in_turn(
     alloc: Global,
+    spare: Option<Plane>,
     table: &CurveTable,
     input: &Plane,
     region: Region,
@@ -108,5 +109,5 @@ pub fn curve_in_turn(
         blue: table.blue(),
         input,
     };
-    paint_in_turn(alloc, PlaneKind::Rgb, w, h, region, &painter)
+    paint_in_turn(alloc, spare, PlaneKind::Rgb, w, h, region, &painter)
 }

@@ -110,9 +110,10 @@ pub fn exposure<R: Threads + Sync>(
     )
 }
 
-/// The same region, its rows one after another, as a band of a run makes it.
+/// The same region, its rows one after another, as a band of a run makes it. A spare plane lends it its memory.
 pub fn exposure_in_turn(
     alloc: Global,
+    spare: Option<Plane>,
     params: &Exposure,
     input: &Plane,
     region: Region,
@@ -126,6 +127,7 @@ pub fn exposure_in_turn(
     let (w, h) = input.sides();
     paint_in_turn(
         alloc,
+        spare,
         PlaneKind::Rgb,
         w,
         h,

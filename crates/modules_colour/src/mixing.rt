@@ -139,9 +139,10 @@ pub fn mixer<R: Threads + Sync>(
     )
 }
 
-/// The same region, its rows one after another, as a band of a run makes it.
+/// The same region, its rows one after another, as a band of a run makes it. A spare plane lends it its memory.
 pub fn mixer_in_turn(
     alloc: Global,
+    spare: Option<Plane>,
     params: &ChannelMixer,
     input: &Plane,
     region: Region,
@@ -156,6 +157,7 @@ pub fn mixer_in_turn(
     let mixer = params;
     paint_in_turn(
         alloc,
+        spare,
         PlaneKind::Rgb,
         w,
         h,

@@ -53,6 +53,7 @@ fn moved<R: Threads + Sync>(
 // The same region, its rows one after another.
 fn moved_in_turn(
     alloc: Global,
+    spare: Option<Plane>,
     params: &Params,
     input: &Plane,
     region: Region,
@@ -65,7 +66,15 @@ fn moved_in_turn(
 {
     let (columns, rows, trace) = places(params, input);
     let painter = MovedRows { input, trace };
-    paint_in_turn(alloc, PlaneKind::Rgb, columns, rows, region, &painter)
+    paint_in_turn(
+        alloc,
+        spare,
+        PlaneKind::Rgb,
+        columns,
+        rows,
+        region,
+        &painter,
+    )
 }
 
 /// Orientation: the sides swapped, then flipped, over one region of its output, its rows side by side.
@@ -84,9 +93,10 @@ pub fn orientation<R: Threads + Sync>(
     moved(rt, alloc, &Params::Orientation(*params), input, region)
 }
 
-/// The same region, its rows one after another, as a band of a run makes it.
+/// The same region, its rows one after another, as a band of a run makes it. A spare plane lends it its memory.
 pub fn orientation_in_turn(
     alloc: Global,
+    spare: Option<Plane>,
     params: &Orientation,
     input: &Plane,
     region: Region,
@@ -95,7 +105,7 @@ pub fn orientation_in_turn(
     ensures area { IfOk result (λ p. p.area ≡ region) }
     ensures cut { IfOk result (λ p. (q : Picture) → IsCutOf q input.now → IsCutOf (turned_picture params.now q) p) }
 {
-    moved_in_turn(alloc, &Params::Orientation(*params), input, region)
+    moved_in_turn(alloc, spare, &Params::Orientation(*params), input, region)
 }
 
 /// Crop: the part of the input that it keeps, over one region of its output, its rows side by side. The
@@ -115,9 +125,10 @@ pub fn crop<R: Threads + Sync>(
     moved(rt, alloc, &Params::Crop(*params), input, region)
 }
 
-/// The same region, its rows one after another, as a band of a run makes it.
+/// The same region, its rows one after another, as a band of a run makes it. A spare plane lends it its memory.
 pub fn crop_in_turn(
     alloc: Global,
+    spare: Option<Plane>,
     params: &Crop,
     input: &Plane,
     region: Region,
@@ -127,5 +138,5 @@ pub fn crop_in_turn(
     ensures area { IfOk result (λ p. p.area ≡ region) }
     ensures cut { IfOk result (λ p. (q : Picture) → IsCutOf q input.now → IsCutOf (cropped_picture params.now q) p) }
 {
-    moved_in_turn(alloc, &Params::Crop(*params), input, region)
+    moved_in_turn(alloc, spare, &Params::Crop(*params), input, region)
 }

@@ -15,7 +15,7 @@ prepared r c v = scaled (r.white - slice_index r.black c) (v - slice_index r.bla
 abbrev pub prepared_picture : RawPrepare → Picture → Picture
 prepared_picture r q = mapped (prepared r) q
 
--- how many times 2^36 a distance grows, rounded up
+-- how many times 2^36 a distance grows, rounded down, and one more
 pub record IsFactor (range factor : ℕ) : Type 0 where
   pub some : 0 < range
   pub small : range ≤ 65535

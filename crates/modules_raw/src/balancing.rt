@@ -85,9 +85,10 @@ pub fn temperature<R: Threads + Sync>(
     map_region(rt, alloc, params, input, region)
 }
 
-/// The same region, its rows one after another, as a band of a run makes it.
+/// The same region, its rows one after another, as a band of a run makes it. A spare plane lends it its memory.
 pub fn temperature_in_turn(
     alloc: Global,
+    spare: Option<Plane>,
     params: &Temperature,
     input: &Plane,
     region: Region,
@@ -97,5 +98,5 @@ pub fn temperature_in_turn(
     ensures area { IfOk result (λ p. p.area ≡ region) }
     ensures cut { IfOk result (λ p. (q : Picture) → IsCutOf q input.now → IsCutOf (balanced_picture params.now q) p) }
 {
-    map_in_turn(alloc, params, input, region)
+    map_in_turn(alloc, spare, params, input, region)
 }

@@ -53,6 +53,7 @@ pub fn demosaic<R: Threads + Sync>(
 // The same region of a mosaic, its rows one after another.
 fn demosaic_mosaic_in_turn(
     alloc: Global,
+    spare: Option<Plane>,
     cfa: Cfa,
     input: &Plane,
     region: Region,
@@ -66,6 +67,7 @@ fn demosaic_mosaic_in_turn(
     let (w, h) = input.sides();
     paint_in_turn(
         alloc,
+        spare,
         PlaneKind::Rgb,
         w,
         h,
@@ -74,15 +76,20 @@ fn demosaic_mosaic_in_turn(
     )
 }
 
-/// The same region, its rows one after another, as a band of a run makes it.
-pub fn demosaic_in_turn(alloc: Global, input: &Plane, region: Region) -> Result<Plane, AllocError>
+/// The same region, its rows one after another, as a band of a run makes it. A spare plane lends it its memory.
+pub fn demosaic_in_turn(
+    alloc: Global,
+    spare: Option<Plane>,
+    input: &Plane,
+    region: Region,
+) -> Result<Plane, AllocError>
     requires inside { IsIn region input.now.w input.now.h }
     requires covers { Covers input.now.area (grown region 1 input.now.w input.now.h) }
     ensures area { IfOk result (λ p. p.area ≡ region) }
     ensures cut { IfOk result (λ p. (q : Picture) → IsCutOf q input.now → IsCutOf (demosaiced_picture q) p) }
 {
     match input.kind() {
-        PlaneKind::Mosaic(cfa) => demosaic_mosaic_in_turn(alloc, cfa, input, region),
+        PlaneKind::Mosaic(cfa) => demosaic_mosaic_in_turn(alloc, spare, cfa, input, region),
         PlaneKind::Rgb => input.cut(alloc, region),
     }
 }

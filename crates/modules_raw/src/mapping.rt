@@ -84,6 +84,7 @@ pub(crate) fn map_region<R: Threads + Sync, M: ChannelMap + Drop + Sync>(
 /// The same region, its rows one after another.
 pub(crate) fn map_in_turn<M: ChannelMap + Drop>(
     alloc: Global,
+    spare: Option<Plane>,
     map: &M,
     input: &Plane,
     region: Region,
@@ -96,6 +97,7 @@ pub(crate) fn map_in_turn<M: ChannelMap + Drop>(
     let (w, h) = input.sides();
     paint_in_turn(
         alloc,
+        spare,
         input.kind(),
         w,
         h,

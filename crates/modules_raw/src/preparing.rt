@@ -107,9 +107,10 @@ pub fn raw_prepare<R: Threads + Sync>(
     map_region(rt, alloc, params, input, region)
 }
 
-/// The same region, its rows one after another, as a band of a run makes it.
+/// The same region, its rows one after another, as a band of a run makes it. A spare plane lends it its memory.
 pub fn raw_prepare_in_turn(
     alloc: Global,
+    spare: Option<Plane>,
     params: &RawPrepare,
     input: &Plane,
     region: Region,
@@ -119,5 +120,5 @@ pub fn raw_prepare_in_turn(
     ensures area { IfOk result (λ p. p.area ≡ region) }
     ensures cut { IfOk result (λ p. (q : Picture) → IsCutOf q input.now → IsCutOf (prepared_picture params.now q) p) }
 {
-    map_in_turn(alloc, params, input, region)
+    map_in_turn(alloc, spare, params, input, region)
 }

@@ -18,6 +18,7 @@ use std::alloc::{AllocError, Global};
 // A region behind a tone curve, by its tables.
 fn tone_curve(
     alloc: Global,
+    spare: Option<Plane>,
     piece: &Piece,
     settings: &ToneCurve,
     input: &Plane,
@@ -29,11 +30,16 @@ fn tone_curve(
     ensures area { IfOk result (λ p. p.area ≡ region) }
     ensures cut { IfOk result (λ p. (q : Picture) → IsCutOf q input.now → IsCutOf (curved_picture settings.now q) p) }
 {
-    modules_colour::curve_in_turn(alloc, piece.table(settings), input, region)
+    modules_colour::curve_in_turn(alloc, spare, piece.table(settings), input, region)
 }
 
 // A region of a mosaic made RGB, or none where the input is RGB already.
-fn demosaic(alloc: Global, input: &Plane, region: Region) -> Result<Option<Plane>, AllocError>
+fn demosaic(
+    alloc: Global,
+    spare: Option<Plane>,
+    input: &Plane,
+    region: Region,
+) -> Result<Option<Plane>, AllocError>
     requires inside { IsIn region input.now.w input.now.h }
     requires covers { Covers input.now.area (grown region 1 input.now.w input.now.h) }
     ensures area { IfOk result (λ made. IfSome made (λ o. o.area ≡ region)) }
@@ -42,7 +48,7 @@ fn demosaic(alloc: Global, input: &Plane, region: Region) -> Result<Option<Plane
 {
     match input.kind() {
         PlaneKind::Mosaic(_) => {
-            let made = modules_raw::demosaic_in_turn(alloc, input, region)?;
+            let made = modules_raw::demosaic_in_turn(alloc, spare, input, region)?;
             Ok(Some(made))
         }
         PlaneKind::Rgb => Ok(None),
@@ -50,9 +56,10 @@ fn demosaic(alloc: Global, input: &Plane, region: Region) -> Result<Option<Plane
 }
 
 // A region of what a piece's module by itself makes of its input, a picture of that level, or none where it
-// leaves the input as it is.
+// leaves the input as it is. A spare plane may lend it its memory.
 pub(crate) fn apply(
     alloc: Global,
+    spare: Option<Plane>,
     piece: &Piece,
     params: &Params,
     level: u8,
@@ -67,32 +74,32 @@ pub(crate) fn apply(
 {
     match params {
         Params::RawPrepare(raw) => {
-            let made = modules_raw::raw_prepare_in_turn(alloc, raw, input, region)?;
+            let made = modules_raw::raw_prepare_in_turn(alloc, spare, raw, input, region)?;
             Ok(Some(made))
         }
         Params::Temperature(balance) => {
-            let made = modules_raw::temperature_in_turn(alloc, balance, input, region)?;
+            let made = modules_raw::temperature_in_turn(alloc, spare, balance, input, region)?;
             Ok(Some(made))
         }
-        Params::Demosaic => demosaic(alloc, input, region),
+        Params::Demosaic => demosaic(alloc, spare, input, region),
         Params::Orientation(turn) => {
-            let made = modules_geometry::orientation_in_turn(alloc, turn, input, region)?;
+            let made = modules_geometry::orientation_in_turn(alloc, spare, turn, input, region)?;
             Ok(Some(made))
         }
         Params::Crop(crop) => {
-            let made = modules_geometry::crop_in_turn(alloc, crop, input, region)?;
+            let made = modules_geometry::crop_in_turn(alloc, spare, crop, input, region)?;
             Ok(Some(made))
         }
         Params::Exposure(exposure) => {
-            let made = modules_colour::exposure_in_turn(alloc, exposure, input, region)?;
+            let made = modules_colour::exposure_in_turn(alloc, spare, exposure, input, region)?;
             Ok(Some(made))
         }
         Params::ChannelMixer(mixer) => {
-            let made = modules_colour::mixer_in_turn(alloc, mixer, input, region)?;
+            let made = modules_colour::mixer_in_turn(alloc, spare, mixer, input, region)?;
             Ok(Some(made))
         }
         Params::ToneCurve(curve) => {
-            let made = tone_curve(alloc, piece, curve, input, region)?;
+            let made = tone_curve(alloc, spare, piece, curve, input, region)?;
             Ok(Some(made))
         }
         Params::BoxBlur(blur) => {

@@ -1,6 +1,7 @@
 //! Runs of pieces by bands of rows, side by side. A band goes through all pieces before the next one, in
 //! small planes that stay in a processor's cache.
 ghost use Rattle.std.specs.Prelude.{◌≡◌, ◌<◌, ◌≤◌, IfOk, None, unwrap_or};
+ghost use Rattle.std.specs.Option.{option_or};
 ghost use Rattle.px.specs.declared.kind.PlaneKind.TheVariants.{Rgb};
 ghost use Rattle.px.specs.Area.{Covers};
 ghost use Rattle.px.specs.Bands.{IsShaped};
@@ -22,7 +23,7 @@ use std::alloc::{AllocError, Global};
 use std::thread::Threads;
 
 // As many pixels of a band as leave two of its planes in a processor's cache.
-const BAND_PIXELS: u32 = 49_152;
+const BAND_PIXELS: u32 = 24_576;
 
 // How many rows above and below a module looks at.
 pub(crate) fn reach(params: &Params) -> u32 {
@@ -77,12 +78,24 @@ fn narrowed(
     }
 }
 
-// A region of what the pieces make of the plane that was made, or else of the input, one after the other.
+// The plane that stands now, if one was made, and the one that it takes the place of.
+fn passed_on(next: Option<Plane>, made: Option<Plane>) -> (Option<Plane>, Option<Plane>)
+    ensures { result.0 ≡ option_or next made }
+{
+    match next {
+        Some(plane) => (Some(plane), made),
+        None => (made, None),
+    }
+}
+
+// A region of what the pieces make of the plane that was made, or else of the input, one after the other. A
+// spare plane, which nobody needs any more, lends the next one its memory.
 pub(crate) fn run_in_turn(
     alloc: Global,
     course: Course,
     input: &Plane,
     made: Option<Plane>,
+    spare: Option<Plane>,
     pieces: &[Piece],
     region: Region,
 ) -> Result<Plane, AllocError>
@@ -102,6 +115,7 @@ pub(crate) fn run_in_turn(
     let needed = region_before(later, columns, rows, region);
     let next = make(
         alloc,
+        spare,
         piece,
         course.level(),
         &course.tracing(),
@@ -110,7 +124,8 @@ pub(crate) fn run_in_turn(
     )?;
     let mut behind = course;
     behind.push(active);
-    run_in_turn(alloc, behind, input, next.or(made), later, region)
+    let (made, spare) = passed_on(next, made);
+    run_in_turn(alloc, behind, input, made, spare, later, region)
 }
 
 /// A region of what the pieces make of a run's input, put together from bands of rows.

@@ -61,7 +61,7 @@ impl Input for Plane {
         pieces: &[Piece],
         region: Region,
     ) -> Result<Plane, AllocError> {
-        run_in_turn(alloc, course, self, None, pieces, region)
+        run_in_turn(alloc, course, self, None, None, pieces, region)
     }
 }
 
@@ -88,6 +88,6 @@ impl Input for Raster<'_> {
         let (w, h) = self.sides();
         let needed = region_before(pieces, w, h, region);
         let band = self.cut(alloc, needed)?;
-        run_in_turn(alloc, course, &band, None, pieces, region)
+        run_in_turn(alloc, course, &band, None, None, pieces, region)
     }
 }

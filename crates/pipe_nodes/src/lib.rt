@@ -29,7 +29,7 @@ pub use counting::active_count;
 pub use gather::actives;
 pub use piece::{Piece, commit};
 pub use prefix::Prefix;
-pub use run::{developed_bytes, shown_bytes, uncached};
+pub use run::{developed_bytes, uncached};
 pub use show::{Show, Window};
 pub use staged::Staged;
 pub use steps::Steps;

@@ -31,9 +31,10 @@ pub(crate) fn made_or_cut(
 }
 
 // A region of what a piece makes of its input, a picture of that level, or none where it leaves
-// the input as it is. `tracing` tells where the input's pixels come from.
+// the input as it is. `tracing` tells where the input's pixels come from. A spare plane may lend it its memory.
 pub(crate) fn make(
     alloc: Global,
+    spare: Option<Plane>,
     piece: &Piece,
     level: u8,
     tracing: &Tracing,
@@ -47,7 +48,7 @@ pub(crate) fn make(
 {
     let active = piece.active();
     prove!(params::check(&active.params).is_ok());
-    let made = apply(alloc, piece, &active.params, level, input, region)?;
+    let made = apply(alloc, spare, piece, &active.params, level, input, region)?;
     match &active.blend {
         None => Ok(made),
         Some(blend) => {

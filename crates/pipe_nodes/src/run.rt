@@ -111,54 +111,6 @@ pub fn uncached<R: Threads + Sync>(
     }
 }
 
-// The bytes of the whole picture that what is active in a history makes of a level of a source, with its
-// sides.
-fn written_whole<R: Threads + Sync>(
-    rt: &R,
-    alloc: Global,
-    source: &Source,
-    history: &History,
-    level: u8,
-    depth: Depth,
-) -> Result<(u32, u32, Vec<u8>), AllocError>
-    requires level { level ≤ 8 }
-    ensures wide { IfOk result (λ made. (q : Picture) → IsCutOf q source.now → made.0 ≡ (whole q level (actives_of history.now)).w) }
-    ensures high { IfOk result (λ made. (q : Picture) → IsCutOf q source.now → made.1 ≡ (whole q level (actives_of history.now)).h) }
-    ensures bytes { IfOk result (λ made. (q : Picture) → IsCutOf q source.now → made.2.items ≡ written (whole q level (actives_of history.now)) depth) }
-{
-    let pieces = committed(alloc, history)?;
-    let whole = source.plane();
-    let first = level_of(rt, alloc, source, level)?;
-    let input = standing(&first, whole);
-    let course = Course::start(source, level);
-    run_written(rt, alloc, course, input, &pieces, depth)
-}
-
-/// The same picture as the bytes of a P6 of the shown depth, with its sides. The bytes of a whole picture
-/// are made band by band, so that no plane of it stands whole.
-pub fn shown_bytes<R: Threads + Sync>(
-    rt: &R,
-    alloc: Global,
-    source: &Source,
-    history: &History,
-    show: &Show,
-) -> Result<(u32, u32, Vec<u8>), AllocError>
-    requires level { show.now.level ≤ 8 }
-    requires window { CanShow show.now.window }
-    ensures wide { IfOk result (λ shown. (q : Picture) → IsCutOf q source.now → shown.0 ≡ (windowed (whole q show.now.level (actives_of history.now)) show.now.window).w) }
-    ensures high { IfOk result (λ shown. (q : Picture) → IsCutOf q source.now → shown.1 ≡ (windowed (whole q show.now.level (actives_of history.now)) show.now.window).h) }
-    ensures bytes { IfOk result (λ shown. (q : Picture) → IsCutOf q source.now → shown.2.items ≡ written (windowed (whole q show.now.level (actives_of history.now)) show.now.window) show.now.depth) }
-{
-    match show.window {
-        Window::Whole => written_whole(rt, alloc, source, history, show.level, show.depth),
-        _ => {
-            let plane = uncached(rt, alloc, source, history, show)?;
-            let (w, h) = plane.sides();
-            Ok((w, h, pnm::write(alloc, &plane, show.depth)?))
-        }
-    }
-}
-
 /// The bytes of a P6 of that depth, with its sides, of the whole picture that what is active in a history
 /// makes of the picture of a raster. Each band is decoded, made and written by itself, so that neither a
 /// plane of the source nor one of the result stands whole.

@@ -83,6 +83,7 @@ impl Raster<'_> {
         let (w, h) = self.sides();
         paint_in_turn(
             alloc,
+            None,
             self.kind(),
             w,
             h,

@@ -43,6 +43,7 @@ impl Plane {
         let (w, h) = self.sides();
         paint_in_turn(
             alloc,
+            None,
             self.kind(),
             w,
             h,

@@ -122,6 +122,25 @@ pub(crate) fn blank(alloc: Global, rows: Rows) -> Result<Vec<u32>, AllocError>
     vec![in alloc; 0u32; count]
 }
 
+// As many values, in the place of those of a plane that nobody needs any more, where it has enough.
+fn blank_over(alloc: Global, spare: Option<Plane>, rows: Rows) -> Result<Vec<u32>, AllocError>
+    requires small { rows.size ≤ 3 }
+    requires right { rows.x + rows.w ≤ 16384 }
+    requires bottom { rows.y + rows.h ≤ 16384 }
+    ensures len { IfOk result (λ v. length v.items ≡ rows.h * rows.w * rows.size) }
+    ensures top { IfOk result (λ v. (i : ℕ) → slice_index v.items i ≤ 1048575) }
+{
+    let count = rows.h as usize * rows.w as usize * rows.size;
+    if let Some(plane) = spare {
+        let mut values = plane.into_values();
+        if count <= values.len() {
+            values.truncate(count);
+            return Ok(values);
+        }
+    }
+    blank(alloc, rows)
+}
+
 /// A plane of one region of a picture of sides `w` and `h`, each pixel of which is what the painter
 /// gives there. Its rows are painted side by side, in as many threads as there are processors.
 pub fn paint<R: Threads + Sync, P: RowPainter + Sync>(
@@ -149,9 +168,11 @@ pub fn paint<R: Threads + Sync, P: RowPainter + Sync>(
     Ok(Plane::from_rows(kind, w, h, region, values))
 }
 
-/// The same plane, its rows painted one after another.
+/// The same plane, its rows painted one after another. A spare plane, which nobody needs any more, lends it its
+/// memory where that is enough.
 pub fn paint_in_turn<P: RowPainter>(
     alloc: Global,
+    spare: Option<Plane>,
     kind: PlaneKind,
     w: u32,
     h: u32,
@@ -169,7 +190,7 @@ pub fn paint_in_turn<P: RowPainter>(
     ensures { IfOk result (λ p. IsPainted kind w h region (P.gives painter.now) p) }
 {
     let rows = rows_of(region, kind.channels());
-    let mut values = blank(alloc, rows)?;
+    let mut values = blank_over(alloc, spare, rows)?;
     fill_in_turn(painter, rows, &mut values);
     Ok(Plane::from_rows(kind, w, h, region, values))
 }

@@ -1,16 +1,9 @@
 use history::{Edit, History, Item};
-use modules_raw::Source;
 use params::{BoxBlur, Orientation, Params};
-use pipe_nodes::{Show, Window, shown_bytes};
+use pipe_nodes::developed_bytes;
 use px::Depth;
 use std::alloc::{AllocError, Global};
 use std::test::Fail;
-
-const WHOLE: Show = Show {
-    level: 0,
-    window: Window::Whole,
-    depth: Depth::Eight,
-};
 
 // 16,384 columns and 8 rows. Row y is of samples 30 y.
 fn wide(alloc: Global) -> Result<Vec<u8>, AllocError> {
@@ -50,14 +43,15 @@ fn of_one(alloc: Global, params: Params) -> Result<History, AllocError> {
     Ok(history)
 }
 
-// A band has 3 rows at most here. Each row but the first and the last is the mean of three: itself and
+// A band has few rows here. Each row but the first and the last is the mean of three: itself and
 // those above and below it, which other bands hold.
 #[test]
 fn bands_see_the_rows_round_them(rt: HostRuntime) -> Result<(), Fail> {
     let alloc = rt.alloc();
-    let source = Source::of(pnm::read(alloc, wide(alloc)?.as_slice(), None)?);
+    let file = wide(alloc)?;
+    let raster = pnm::raster_of(file.as_slice(), None)?;
     let history = of_one(alloc, Params::BoxBlur(BoxBlur { radius: 1 }))?;
-    let (w, h, bytes) = shown_bytes(&rt, alloc, &source, &history, &WHOLE)?;
+    let (w, h, bytes) = developed_bytes(&rt, alloc, &raster, &history, Depth::Eight)?;
     assert_eq!(rt; (w, h), (16_384, 8));
     let mut firsts = Vec::new(alloc);
     for y in 0..8 {
@@ -72,14 +66,15 @@ fn bands_see_the_rows_round_them(rt: HostRuntime) -> Result<(), Fail> {
 #[test]
 fn a_turned_picture_is_made_by_bands_too(rt: HostRuntime) -> Result<(), Fail> {
     let alloc = rt.alloc();
-    let source = Source::of(pnm::read(alloc, wide(alloc)?.as_slice(), None)?);
+    let file = wide(alloc)?;
+    let raster = pnm::raster_of(file.as_slice(), None)?;
     let turn = Orientation {
         swap: true,
         flip_x: false,
         flip_y: false,
     };
     let history = of_one(alloc, Params::Orientation(turn))?;
-    let (w, h, bytes) = shown_bytes(&rt, alloc, &source, &history, &WHOLE)?;
+    let (w, h, bytes) = developed_bytes(&rt, alloc, &raster, &history, Depth::Eight)?;
     assert_eq!(rt; (w, h), (8, 16_384));
     let row =
         b"\x00\x00\x00\x1e\x1e\x1e\x3c\x3c\x3c\x5a\x5a\x5a\x78\x78\x78\x96\x96\x96\xb4\xb4\xb4\xd2\xd2\xd2";

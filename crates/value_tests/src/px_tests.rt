@@ -28,7 +28,7 @@ fn a_mosaic_has_one_value_a_pixel(rt: HostRuntime) -> Result<(), Fail> {
     let region = Region::new(0, 1, 2, 2).ok_or("a region")?;
     let value = |x: u32, y: u32| x ^ y;
     let kind = PlaneKind::Mosaic(Cfa::Rggb);
-    let plane = paint_in_turn(rt.alloc(), kind, 2, 3, region, &ByValue { value })?;
+    let plane = paint_in_turn(rt.alloc(), None, kind, 2, 3, region, &ByValue { value })?;
     assert!(rt; plane.values() == [1, 0, 2, 3].as_slice());
     Ok(())
 }

@@ -25,6 +25,7 @@ fn slope(alloc: Global, part: u32) -> Result<Plane, AllocError>
     };
     paint_in_turn(
         alloc,
+        None,
         PlaneKind::Rgb,
         4096,
         4,

@@ -28,7 +28,7 @@ run_in_turn-requires t c =
     let p = c.standing-plane.result.now in
     let stood = c.standing-plane.ensures in
     let next = c.in_ok-next.next in
-    let joined : unwrap_or c.or.result c.args.input.now ≡ unwrap_or next p = ap (λ o. unwrap_or o c.args.input.now) c.or.ensures ∙ standing-more next c.args.made c.args.input.now ∙ ap (unwrap_or next) (sym stood) in
+    let joined : unwrap_or c.passed_on-made.result.0 c.args.input.now ≡ unwrap_or next p = ap (λ o. unwrap_or o c.args.input.now) c.passed_on-made.ensures ∙ standing-more next c.args.made c.args.input.now ∙ ap (unwrap_or next) (sym stood) in
     let sides_is : c.roi_out-columns.result ≡ sides_after a.params (p.w, p.h) = c.roi_out-columns.ensures.sides ∙ ap (sides_after c.active-active.result.now.params) c.sides-w.ensures.sides ∙ ap (λ (y : Active). sides_after y.params (p.w, p.h)) x_is in
     let out : c.push.new.self.geometry.out ≡ sides_after a.params c.args.course.geometry.out = c.push.ensures.out ∙ ap (λ (y : Active). sides_after y.params c.args.course.geometry.out) x_is in (
       search rules,
@@ -47,7 +47,7 @@ returns-clause-shaped t c =
     let p = c.standing-plane.result.now in
     let stood = c.standing-plane.ensures in
     let next = c.in_ok-next.next in
-    let joined : unwrap_or c.or.result c.args.input.now ≡ unwrap_or next p = ap (λ o. unwrap_or o c.args.input.now) c.or.ensures ∙ standing-more next c.args.made c.args.input.now ∙ ap (unwrap_or next) (sym stood) in
+    let joined : unwrap_or c.passed_on-made.result.0 c.args.input.now ≡ unwrap_or next p = ap (λ o. unwrap_or o c.args.input.now) c.passed_on-made.ensures ∙ standing-more next c.args.made c.args.input.now ∙ ap (unwrap_or next) (sym stood) in
     IfOk-weaker c.run_in_turn.result _ _ (λ o shaped.
     subst (λ (y : Cut). IsShaped (kind_behind y.kind c.args.pieces.now) (sides_made c.args.pieces.now (y.w, y.h)).0 (sides_made c.args.pieces.now (y.w, y.h)).1 c.args.region o) stood
     (shaped-more c.args.pieces.now later a c.level.result c.tracing.result p _ o next c.region_before-needed.result c.args.region c.in-Some.ensures.cases.0 joined c.in_ok-next.ensures shaped)) c.run_in_turn.ensures.shaped
@@ -60,7 +60,7 @@ returns-clause-made t c =
     let p = c.standing-plane.result.now in
     let stood = c.standing-plane.ensures in
     let next = c.in_ok-next.next in
-    let joined : unwrap_or c.or.result c.args.input.now ≡ unwrap_or next p = ap (λ o. unwrap_or o c.args.input.now) c.or.ensures ∙ standing-more next c.args.made c.args.input.now ∙ ap (unwrap_or next) (sym stood) in
+    let joined : unwrap_or c.passed_on-made.result.0 c.args.input.now ≡ unwrap_or next p = ap (λ o. unwrap_or o c.args.input.now) c.passed_on-made.ensures ∙ standing-more next c.args.made c.args.input.now ∙ ap (unwrap_or next) (sym stood) in
     let push = subst (λ y. (q : Picture) (l : ℕ) (before : List Active) → HasCome q l before c.args.course → HasCome q l (before ++ y ∷ []) c.push.new.self) x_is c.push.ensures.come in
     IfOk-weaker c.run_in_turn.result _ _ (λ o rest.
     subst (λ y. IsMadeBy c.args.pieces.now c.args.course y o) stood
