@@ -4,6 +4,7 @@ use pipe_nodes::developed_bytes;
 use px::Depth;
 use std::alloc::{AllocError, Global};
 use std::test::Fail;
+use std::thread::Threads;
 
 // 16,384 columns and 8 rows. Row y is of samples 30 y.
 fn wide(alloc: Global) -> Result<Vec<u8>, AllocError> {
@@ -43,15 +44,25 @@ fn of_one(alloc: Global, params: Params) -> Result<History, AllocError> {
     Ok(history)
 }
 
+// What such a history makes of the wide picture, and its sides.
+fn developed<R: Threads + Sync>(
+    rt: &R,
+    alloc: Global,
+    params: Params,
+) -> Result<(u32, u32, Vec<u8>), Fail> {
+    let file = wide(alloc)?;
+    let raster = pnm::raster_of(file.as_slice(), None)?;
+    let history = of_one(alloc, params)?;
+    let made = developed_bytes(rt, alloc, &raster, &history, Depth::Eight)?;
+    Ok(made)
+}
+
 // A band has few rows here. Each row but the first and the last is the mean of three: itself and
 // those above and below it, which other bands hold.
 #[test]
 fn bands_see_the_rows_round_them(rt: HostRuntime) -> Result<(), Fail> {
     let alloc = rt.alloc();
-    let file = wide(alloc)?;
-    let raster = pnm::raster_of(file.as_slice(), None)?;
-    let history = of_one(alloc, Params::BoxBlur(BoxBlur { radius: 1 }))?;
-    let (w, h, bytes) = developed_bytes(&rt, alloc, &raster, &history, Depth::Eight)?;
+    let (w, h, bytes) = developed(&rt, alloc, Params::BoxBlur(BoxBlur { radius: 1 }))?;
     assert_eq!(rt; (w, h), (16_384, 8));
     let mut firsts = Vec::new(alloc);
     for y in 0..8 {
@@ -66,15 +77,12 @@ fn bands_see_the_rows_round_them(rt: HostRuntime) -> Result<(), Fail> {
 #[test]
 fn a_turned_picture_is_made_by_bands_too(rt: HostRuntime) -> Result<(), Fail> {
     let alloc = rt.alloc();
-    let file = wide(alloc)?;
-    let raster = pnm::raster_of(file.as_slice(), None)?;
     let turn = Orientation {
         swap: true,
         flip_x: false,
         flip_y: false,
     };
-    let history = of_one(alloc, Params::Orientation(turn))?;
-    let (w, h, bytes) = developed_bytes(&rt, alloc, &raster, &history, Depth::Eight)?;
+    let (w, h, bytes) = developed(&rt, alloc, Params::Orientation(turn))?;
     assert_eq!(rt; (w, h), (8, 16_384));
     let row =
         b"\x00\x00\x00\x1e\x1e\x1e\x3c\x3c\x3c\x5a\x5a\x5a\x78\x78\x78\x96\x96\x96\xb4\xb4\xb4\xd2\xd2\xd2";
