@@ -6,6 +6,10 @@ use std::alloc::{AllocError, Global};
 use std::test::Fail;
 use std::thread::Threads;
 
+// One column of the wide picture, as a row of three samples a pixel.
+const COLUMN: &[u8] =
+    b"\x00\x00\x00\x1e\x1e\x1e\x3c\x3c\x3c\x5a\x5a\x5a\x78\x78\x78\x96\x96\x96\xb4\xb4\xb4\xd2\xd2\xd2";
+
 // 16,384 columns and 8 rows. Row y is of samples 30 y.
 fn wide(alloc: Global) -> Result<Vec<u8>, AllocError> {
     let mut bytes = Vec::new(alloc);
@@ -84,9 +88,7 @@ fn a_turned_picture_is_made_by_bands_too(rt: HostRuntime) -> Result<(), Fail> {
     };
     let (w, h, bytes) = developed(&rt, alloc, Params::Orientation(turn))?;
     assert_eq!(rt; (w, h), (8, 16_384));
-    let row =
-        b"\x00\x00\x00\x1e\x1e\x1e\x3c\x3c\x3c\x5a\x5a\x5a\x78\x78\x78\x96\x96\x96\xb4\xb4\xb4\xd2\xd2\xd2";
-    assert_eq!(rt; bytes.get(15..39), Some(row.as_slice()));
-    assert_eq!(rt; bytes.get(393_207..393_231), Some(row.as_slice()));
+    assert_eq!(rt; bytes.get(15..39), Some(COLUMN));
+    assert_eq!(rt; bytes.get(393_207..393_231), Some(COLUMN));
     Ok(())
 }
