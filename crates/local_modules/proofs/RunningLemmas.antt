@@ -114,6 +114,10 @@ box_sum p lo n a b x e c sums rgb left small was low order fits =
 pub some_in_box : (a b : ℕ) → 0 < a → 0 < b → 0 < a * b
 some_in_box a b h k = omega (arith, mul-le 1 1 a b h k)
 
+-- and not more than a divisor may be
+pub few_in_box : (a b : ℕ) → a ≤ 129 → b ≤ 129 → a * b ≤ 4194304
+few_in_box a b h k = omega (arith, mul-le a b 129 129 h k)
+
 pub box_small : (p : Cut) (lo n a b f t c : ℕ) (sums : List ℕ) → ((i : ℕ) → slice_index p.values i ≤ 1048575) → c < 3 → AreColumns p lo n a b sums → f ≤ t → t * 3 ≤ n
     → between (channel sums c) f t ≤ (t - f) * (b - a) * 1048575
 box_small p lo n a b f t c sums top small was order fits =

@@ -1,5 +1,5 @@
 -- sums that run along
-use Rattle.std.specs.Prelude.{◌≡◌, ℕ, ◌+◌, ◌-◌, ◌*◌, ◌<◌, ◌≤◌, List, [], ◌∷◌, length, slice_index}
+use Rattle.std.specs.Prelude.{◌≡◌, ℕ, ◌+◌, ◌-◌, ◌*◌, ◌/◌, ◌<◌, ◌≤◌, List, [], ◌∷◌, length, slice_index}
 use Rattle.px.specs.Cut.{Cut}
 use Rattle.px.specs.Sums.{total}
 use Rattle.local_modules.specs.Blurring.{blurred}
@@ -25,3 +25,9 @@ channel sums c j = slice_index sums (j * 3 + c)
 pub record IsBlurred (r w h : ℕ) (at : ℕ → ℕ → ℕ → ℕ) (x y : ℕ) (made : List ℕ) : Type 0 where
   pub pixel : made ≡ blurred r w h at x y 0 ∷ blurred r w h at x y 1 ∷ blurred r w h at x y 2 ∷ []
   pub top : (i : ℕ) → slice_index made i ≤ 1048575
+
+-- a number to divide by, and how many times it goes into 2^64 - 1
+pub record IsDivisor (n inverse : ℕ) : Type 0 where
+  pub some : 0 < n
+  pub few : n ≤ 4194304
+  pub inverse_is : inverse ≡ 18446744073709551615 / n

@@ -6,7 +6,8 @@ ghost use Rattle.px.specs.Painted.{IsRow, AreRows};
 ghost use Rattle.local_modules.specs.Running.{AreColumns, IsBlurred};
 
 use crate::columns::move_rows;
-use crate::lines::{mean, slide, step};
+use crate::dividing::Divisor;
+use crate::lines::{slide, step};
 use px::Plane;
 
 // The radius, the sides of the whole picture, and the columns that have sums.
@@ -49,6 +50,7 @@ fn blur_row(
     ensures { IsRow (IsBlurred s.r s.w s.h (value_at _input.now)) x y 3 n row.new }
 {
     let rows = u64::from(b - a);
+    let whole = Divisor::of(u64::from(2 * s.r + 1) * rows);
     let mut from = x.saturating_sub(s.r) - s.lo;
     let mut to = (x + s.r).min(s.w) - s.lo;
     let mut red = slide(sums, 0, from, from, from, to, 0);
@@ -62,9 +64,9 @@ fn blur_row(
         blue = step(sums, 2, from, to, next, end, blue);
         from = next;
         to = end;
-        let count = u64::from(end - next) * rows;
+        let by = whole.or_of(u64::from(end - next) * rows);
         let at = k as usize * 3;
-        let pixel = [mean(red, count), mean(green, count), mean(blue, count)];
+        let pixel = [by.mean(red), by.mean(green), by.mean(blue)];
         row[at] = pixel[0];
         row[at + 1] = pixel[1];
         row[at + 2] = pixel[2];

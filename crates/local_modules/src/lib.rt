@@ -8,6 +8,7 @@
 mod blurring;
 mod boxes;
 mod columns;
+mod dividing;
 mod filling;
 mod lines;
 mod radius;

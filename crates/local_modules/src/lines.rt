@@ -1,5 +1,5 @@
 //! Windows that run along a row.
-ghost use Rattle.std.specs.Prelude.{◌≡◌, ℕ, ◌+◌, ◌-◌, ◌*◌, ◌/◌, ◌^◌, ◌<◌, ◌≤◌, slice_index, length};
+ghost use Rattle.std.specs.Prelude.{◌≡◌, ℕ, ◌+◌, ◌*◌, ◌<◌, ◌≤◌, slice_index, length};
 ghost use Rattle.local_modules.specs.Running.{between, channel};
 
 // From the sum of the places `a` up to `b` to that of the places `c` up to `d`.
@@ -76,18 +76,4 @@ fn take_last(sums: &[u32], k: usize, c: u32, b: u32, d: u32, sum: u64) -> u64
         return sum;
     }
     sum + u64::from(sums[b as usize * 3 + k])
-}
-
-// The mean of a sum of so many values.
-#[inline(always)]
-pub(crate) fn mean(sum: u64, n: u64) -> u32
-    requires some { 0 < n }
-    requires small { sum ≤ n * 1048575 }
-    ensures mean { result ≡ sum / n }
-    ensures top { result ≤ 1048575 }
-{
-    if sum < 4_294_967_296 && n < 4_294_967_296 {
-        return sum as u32 / n as u32;
-    }
-    (sum / n) as u32
 }

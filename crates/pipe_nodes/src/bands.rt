@@ -35,7 +35,7 @@ pub(crate) fn reach(params: &Params) -> u32 {
 }
 
 // How many rows a band of a leg has at most, where a row has so many columns. A module that looks around
-// begins each band with the rows above it, so there its bands are higher.
+// begins each band with the rows above it, so there a band has as many rows of its own.
 fn band_rows(pieces: &[Piece], columns: u32) -> u32
     ensures { 0 < result }
 {
@@ -43,7 +43,7 @@ fn band_rows(pieces: &[Piece], columns: u32) -> u32
         Some(piece) => reach(&piece.active().params).min(64),
         None => 0,
     };
-    (BAND_PIXELS / columns.max(1)).max(4 * around).max(1)
+    (BAND_PIXELS / columns.max(1)).max(around).max(1)
 }
 
 // The plane that was made, or else the one before.

@@ -1,5 +1,5 @@
 //! The legs of a run: pieces that go through bands together. A leg ends before a piece for which a band would need
-//! much more than its own rows, and such a piece is a leg of its own.
+//! much more than its own rows, so that such a piece begins with a whole picture.
 ghost use Rattle.std.specs.Prelude.{◌≡◌, ℕ, ◌<◌, ◌≤◌, List, ◌++◌, IfOk, length, unwrap_or};
 ghost use Rattle.px.specs.Bands.{IsShaped};
 ghost use Rattle.px.specs.declared.kind.PlaneKind.TheVariants.{Rgb};
@@ -23,8 +23,8 @@ use std::thread::Threads;
 // A radius up to which a piece is worth making again the rows that its band's neighbours make too.
 const NEAR: u32 = 2;
 
-// Whether a piece is a leg of its own: it looks far around, or makes columns of rows.
-fn is_alone(piece: &Piece) -> bool {
+// Whether a leg begins with a piece: it looks far around, or makes columns of rows.
+fn begins_leg(piece: &Piece) -> bool {
     match &piece.active().params {
         Params::Orientation(turn) => turn.swap,
         params => reach(params) > NEAR,
@@ -36,9 +36,9 @@ fn leg_len(pieces: &[Piece]) -> usize
     ensures few { result ≤ length pieces.now }
     ensures some { 0 < length pieces.now → 0 < result }
 {
-    for i in 0..pieces.len() {
-        if is_alone(&pieces[i]) {
-            return i.max(1);
+    for i in 1..pieces.len() {
+        if begins_leg(&pieces[i]) {
+            return i;
         }
     }
     pieces.len()
